@@ -1,0 +1,3 @@
+pub mod Everys
+pub mod Growing
+pub mod TwinLemmas

@@ -1,0 +1,5 @@
+pub mod Sums
+pub mod Words
+pub mod PatternLemmas
+pub mod Searches
+pub mod TurnLemmas
