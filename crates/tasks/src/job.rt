@@ -2,7 +2,7 @@
 ghost use mathlib.Core.Path.{_≡_};
 ghost use Rattle.tasks.specs.Spelled.{plan-word, ending-word, outcome-word};
 
-#[derive(Clone, Copy, PartialEq, Eq, Debug)]
+#[derive(Clone, Copy, PartialEq, Eq)]
 pub enum Plan {
     // U: the bare version
     Bare,
@@ -29,7 +29,7 @@ impl Plan {
 }
 
 // The versions that a task comes in.
-#[derive(Clone, Copy, PartialEq, Eq, Debug)]
+#[derive(Clone, Copy, PartialEq, Eq)]
 pub enum Version {
     Bare,
     Detect,
@@ -37,7 +37,7 @@ pub enum Version {
 }
 
 // How a job ends.
-#[derive(Clone, Copy, PartialEq, Eq, Debug)]
+#[derive(Clone, Copy, PartialEq, Eq)]
 pub enum Ending {
     // bare: nobody looked for a fault
     Blind,
@@ -63,7 +63,7 @@ impl Ending {
 }
 
 // How a tick comes out.
-#[derive(Clone, Copy, PartialEq, Eq, Debug)]
+#[derive(Clone, Copy, PartialEq, Eq)]
 pub enum Outcome {
     // no job was open
     Idle,

@@ -7,7 +7,7 @@ use crate::name::Name;
 use crate::technique::Technique;
 
 // The worst-case times of the three versions, in ticks.
-#[derive(Clone, Copy, PartialEq, Eq, Debug)]
+#[derive(Clone, Copy, PartialEq, Eq)]
 pub struct Times {
     pub bare: u32,
     pub detect: u32,

@@ -4,7 +4,7 @@ ghost use Rattle.tasks.specs.Refused.{told-number, told-line, told-place};
 
 // Every cause, with the line and the place in the text where the cause has them. Lines count from 1, places
 // from the text's first byte as 0.
-#[derive(Clone, Copy, PartialEq, Eq, Debug)]
+#[derive(Clone, Copy, PartialEq, Eq)]
 pub enum Refusal {
     // the text is empty, too long, or does not end in a line feed
     Text,

@@ -16,7 +16,7 @@ use crate::table::Table;
 use crate::technique::Technique;
 
 // Why a line is not added to a table, in the order in which it is tested.
-#[derive(Clone, Copy, PartialEq, Eq, Debug)]
+#[derive(Clone, Copy, PartialEq, Eq)]
 pub enum Unfit {
     // the table has 32 lines already
     Full,

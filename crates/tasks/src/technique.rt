@@ -5,7 +5,7 @@ ghost use Rattle.tasks.specs.declared.technique.Technique.{Technique};
 ghost use Rattle.tasks.specs.Spelled.{technique-word};
 use crate::bytes::same_bytes;
 
-#[derive(Clone, Copy, PartialEq, Eq, Debug)]
+#[derive(Clone, Copy, PartialEq, Eq)]
 pub enum Technique {
     // every job corrects
     Fr,

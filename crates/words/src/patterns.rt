@@ -5,7 +5,7 @@ ghost use Rattle.std.specs.Options.{Cases};
 ghost use Rattle.words.specs.Patterns.{Window, pattern-bit, Follows};
 use crate::bits::with_bit;
 
-#[derive(Clone, Copy, PartialEq, Eq, Debug)]
+#[derive(Clone, Copy, PartialEq, Eq)]
 pub enum Pattern {
     // the ones last
     R,
