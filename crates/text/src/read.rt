@@ -1,9 +1,7 @@
 // The table layer: lines ended by line feeds, held to the lines above them.
-ghost use Prim.Native.Nat.{ℕ, _+_, _<_, _≤_};
 ghost use mathlib.Core.Path.{_≡_};
 ghost use mathlib.Core.List.{[]};
-ghost use lib.ListN.{length};
-ghost use Rattle.std.specs.Results.{Cases};
+ghost use Rattle.std.specs.Vec.{refused};
 ghost use Rattle.tasks.specs.Tables.{lines-of};
 use crate::line::cut;
 use crate::line::split_fields;
@@ -44,18 +42,20 @@ fn fill(table: &mut Table, text: &[u8]) -> Result<(), Refusal> {
     if text.len() > LONGEST || !ends_in_feed(text) {
         return Err(Refusal::Text);
     }
-    let mut rest = Part { bytes: text, place: 0 };
-    while !rest.bytes.is_empty() {
-        let (line, after) = cut(rest, b'\n');
+    let mut rest = text;
+    let mut place = 0;
+    while !rest.is_empty() {
+        let (line, after) = cut(Part { bytes: rest, place }, b'\n');
         add(table, line)?;
-        rest = after;
+        rest = after.bytes;
+        place = after.place;
     }
     Ok(())
 }
 
 // Reads a text into a table, whatever it held before; after a refusal the table has no lines.
 pub fn read(table: &mut Table, text: &[u8]) -> Result<(), Refusal>
-    ensures { λ r. ⌜ Cases r (λ _. 1 ≤ length (lines-of (now (table .exit)))) (λ _. lines-of (now (table .exit)) ≡ []) ⌝ }
+    ensures { λ r. ⌜ refused r (λ _. lines-of (now (table .exit)) ≡ []) ⌝ }
 {
     *table = Table::new();
     let answer = fill(table, text);

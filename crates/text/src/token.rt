@@ -1,10 +1,8 @@
 // The field layer: a part of the text, held to the form of its field.
-ghost use Prim.Native.Nat.{ℕ, _<_, _≤_};
+ghost use Prim.Native.Nat.{_<_};
 ghost use mathlib.Core.Path.{_≡_};
 ghost use Rattle.std.specs.Slices.{found};
 ghost use Rattle.std.specs.Vec.{made};
-ghost use Rattle.words.specs.Bits.{ones};
-ghost use Rattle.words.specs.Patterns.{Window};
 ghost use Rattle.text.specs.declared.token.Form.the-variants as form;
 ghost use Rattle.text.specs.Tokens.{Has-form};
 use crate::field::all_bits;
@@ -112,9 +110,7 @@ pub(crate) fn number_field<'a>(part: Part<'a>, line: u32) -> Result<u32, Refusal
 }
 
 // The word that a pattern field stands for, with m ones of k bits.
-pub(crate) fn pattern_field<'a>(part: Part<'a>, m: u32, k: u32, line: u32) -> Result<u64, Refusal>
-    requires { ⌜ Window m k ⌝ }
-{
+pub(crate) fn pattern_field<'a>(part: Part<'a>, m: u32, k: u32, line: u32) -> Result<u64, Refusal> {
     let word = match Form::Pattern.read(part, line)? {
         Token::Bits(bits) => {
             if bits.bytes.len() == k as usize && marks(bits.bytes, b'1') == m as usize {
