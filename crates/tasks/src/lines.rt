@@ -38,7 +38,15 @@ impl Line {
         if period < times.correct || period > 1_000_000 {
             return None;
         }
-        Some(Line { name, technique, m, k, word, times, period })
+        Some(Line {
+            name,
+            technique,
+            m,
+            k,
+            word,
+            times,
+            period,
+        })
     }
 
     // The most ticks that a version takes.

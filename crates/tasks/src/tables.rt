@@ -28,9 +28,24 @@ pub enum Unfit {
 
 // What stands behind the lines of a new table.
 fn filler() -> Line {
-    let name = Name { bytes: [65; 8], len: 1 };
-    let times = Times { bare: 1, detect: 2, correct: 3 };
-    Line { name, technique: Technique::Fr, m: 1, k: 1, word: 1, times, period: 3 }
+    let name = Name {
+        bytes: [65; 8],
+        len: 1,
+    };
+    let times = Times {
+        bare: 1,
+        detect: 2,
+        correct: 3,
+    };
+    Line {
+        name,
+        technique: Technique::Fr,
+        m: 1,
+        k: 1,
+        word: 1,
+        times,
+        period: 3,
+    }
 }
 
 impl Table {
@@ -39,7 +54,10 @@ impl Table {
         ensures { λ r. ⌜ lines-of r ≡ [] ⌝ }
     {
         let line = filler();
-        Table { lines: [line; 32], len: 0 }
+        Table {
+            lines: [line; 32],
+            len: 0,
+        }
     }
 
     // The lines, in order.
@@ -77,7 +95,11 @@ impl Table {
     fn last_period(&self) -> u32
         ensures { λ r. ⌜ r ≡ last-period (lines-of (now (self .entry))) ⌝ }
     {
-        if self.len == 0 { 0 } else { self.lines[self.len - 1].period }
+        if self.len == 0 {
+            0
+        } else {
+            self.lines[self.len - 1].period
+        }
     }
 
     // Adds a line at the end; a table that the line does not fit stays as it is.

@@ -7,7 +7,6 @@ use native.Mathlib.Nat.{pow-succ', pow-le-pow-right}
 use native.Mathlib.Omega.{arith}
 use lib.Dec.{leb}
 use lib.ListN.{length, take, drop, getD}
-
 use Rattle.std.proofs.shelf.Parts.{first-rest}
 use Rattle.std.proofs.shelf.Tests.{and-parts, leb-true}
 use Rattle.tasks.specs.Bytes.{every, digit}

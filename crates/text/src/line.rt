@@ -1,6 +1,9 @@
 // The line layer: nine fields, parted by commas, held to the rules of a line.
 ghost use Prim.Native.Nat.{_<_, _≤_};
 ghost use lib.ListN.{length};
+ghost use mathlib.Core.Path.{_≡_};
+ghost use Rattle.std.specs.Vec.{refused};
+ghost use Rattle.tasks.specs.declared.refusal.Refusal.the-variants.{FieldCount};
 use crate::field::lead_to;
 use crate::field::marks;
 use crate::token::Part;
@@ -32,18 +35,38 @@ pub(crate) fn cut<'a>(text: Part<'a>, mark: u8) -> (Part<'a>, Part<'a>)
 {
     let count = lead_to(text.bytes, mark);
     let (bytes, after) = text.bytes.split_at(count);
-    let first = Part { bytes, place: text.place };
+    let first = Part {
+        bytes,
+        place: text.place,
+    };
     let place = text.place.saturating_add(count);
     match after {
-        [_, rest @ ..] => (first, Part { bytes: rest, place: place.saturating_add(1) }),
-        [] => (first, Part { bytes: after, place }),
+        [_, rest @ ..] => (
+            first,
+            Part {
+                bytes: rest,
+                place: place.saturating_add(1),
+            },
+        ),
+        [] => (
+            first,
+            Part {
+                bytes: after,
+                place,
+            },
+        ),
     }
 }
 
 // The nine fields of a line; a line with another number of fields is refused at its first byte.
-pub fn split_fields<'a>(text: Part<'a>, line: u32) -> Result<Fields<'a>, Refusal> {
+pub fn split_fields<'a>(text: Part<'a>, line: u32) -> Result<Fields<'a>, Refusal>
+    ensures { λ r. ⌜ refused r (λ e. e ≡ FieldCount line (text .entry .place)) ⌝ }
+{
     if marks(text.bytes, b',') != 8 {
-        return Err(Refusal::FieldCount { line, place: text.place });
+        return Err(Refusal::FieldCount {
+            line,
+            place: text.place,
+        });
     }
     let (name, rest) = cut(text, b',');
     let (technique, rest) = cut(rest, b',');
@@ -53,12 +76,29 @@ pub fn split_fields<'a>(text: Part<'a>, line: u32) -> Result<Fields<'a>, Refusal
     let (bare, rest) = cut(rest, b',');
     let (detect, rest) = cut(rest, b',');
     let (correct, period) = cut(rest, b',');
-    Ok(Fields { name, technique, m, k, pattern, bare, detect, correct, period })
+    Ok(Fields {
+        name,
+        technique,
+        m,
+        k,
+        pattern,
+        bare,
+        detect,
+        correct,
+        period,
+    })
 }
 
 // A value against a rule is refused at its field.
 fn rule<'a>(kept: bool, field: Part<'a>, line: u32) -> Result<(), Refusal> {
-    if kept { Ok(()) } else { Err(Refusal::Value { line, place: field.place }) }
+    if kept {
+        Ok(())
+    } else {
+        Err(Refusal::Value {
+            line,
+            place: field.place,
+        })
+    }
 }
 
 // m and k.
@@ -80,7 +120,14 @@ fn times<'a>(f: Fields<'a>, line: u32) -> Result<(Times, u32), Refusal> {
     let period = number_field(f.period, line)?;
     rule(correct <= period, f.period, line)?;
     rule(period <= 1_000_000, f.period, line)?;
-    Ok((Times { bare, detect, correct }, period))
+    Ok((
+        Times {
+            bare,
+            detect,
+            correct,
+        },
+        period,
+    ))
 }
 
 // The line that the fields say, each held to its form and rules from the left.
@@ -93,6 +140,9 @@ pub(crate) fn line<'a>(f: Fields<'a>, line: u32) -> Result<Line, Refusal> {
     let at = f.period;
     match Line::new(name, technique, m, k, word, times, period) {
         Some(made) => Ok(made),
-        None => Err(Refusal::Value { line, place: at.place }),
+        None => Err(Refusal::Value {
+            line,
+            place: at.place,
+        }),
     }
 }

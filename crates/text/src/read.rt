@@ -4,8 +4,8 @@ ghost use mathlib.Core.List.{[]};
 ghost use Rattle.std.specs.Vec.{refused};
 ghost use Rattle.tasks.specs.Tables.{lines-of};
 use crate::line::cut;
-use crate::line::split_fields;
 use crate::line::line;
+use crate::line::split_fields;
 use crate::token::Part;
 use tasks::refusal::Refusal;
 use tasks::table::Table;
@@ -28,8 +28,14 @@ fn add<'a>(table: &mut Table, text: Part<'a>) -> Result<(), Refusal> {
     match table.push(read) {
         Ok(()) => Ok(()),
         Err(Unfit::Full) => Err(Refusal::TooManyLines { place }),
-        Err(Unfit::NameUsed) => Err(Refusal::NameUsed { line: number, place }),
-        Err(Unfit::PeriodFalls) => Err(Refusal::PeriodFalls { line: number, place: period.place }),
+        Err(Unfit::NameUsed) => Err(Refusal::NameUsed {
+            line: number,
+            place,
+        }),
+        Err(Unfit::PeriodFalls) => Err(Refusal::PeriodFalls {
+            line: number,
+            place: period.place,
+        }),
     }
 }
 

@@ -75,7 +75,10 @@ impl Form {
     {
         match self.token(part) {
             Some(token) => Ok(token),
-            None => Err(Refusal::Form { line, place: part.place }),
+            None => Err(Refusal::Form {
+                line,
+                place: part.place,
+            }),
         }
     }
 }
@@ -127,6 +130,9 @@ pub(crate) fn pattern_field<'a>(part: Part<'a>, m: u32, k: u32, line: u32) -> Re
     };
     match word {
         Some(word) => Ok(word),
-        None => Err(Refusal::Value { line, place: part.place }),
+        None => Err(Refusal::Value {
+            line,
+            place: part.place,
+        }),
     }
 }

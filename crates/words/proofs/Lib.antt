@@ -1,4 +1,5 @@
 pub mod Sums
+pub mod Rows
 pub mod Words
 pub mod PatternLemmas
 pub mod Searches

@@ -19,9 +19,10 @@ loop-by-again c =
 
 pub returns : need.returns
 returns c =
-    let k = c .args .k in
-    ((λ e. absurd (false≢true e)),
-    (λ t.
-    let s = t .0 in
-    let end : s % k < c .loop-by .by = omega (arith, mod-lt s (c .pre .0)) in
-    absurd (c .loop-by .inv (s % k) end (λ j h. t .1 j h ∙ ap (bit (c .args .a)) (sym (add-mod-mod j s k))))))
+    let k = c .args .k in (
+      (λ e. absurd (false≢true e)),
+      (λ t.
+          let s = t .0 in
+          let end : s % k < c .loop-by .by = omega (arith, mod-lt s (c .pre .0)) in
+          absurd (c .loop-by .inv (s % k) end (λ j h. t .1 j h ∙ ap (bit (c .args .a)) (sym (add-mod-mod j s k))))),
+    )

@@ -1,0 +1,5 @@
+pub mod Endings
+pub mod Runs
+pub mod Promises
+pub mod Patterns
+pub mod Techniques

@@ -1,0 +1,2 @@
+mod Loads
+mod Places
