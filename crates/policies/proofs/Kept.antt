@@ -21,13 +21,14 @@ use Rattle.tasks.specs.declared.job.Ending.{Ending}
 use Rattle.tasks.specs.declared.job.Ending.the-variants.{Blind, Clean, Bad, Sure}
 use Rattle.policies.specs.Endings.{Allows, bare-blind, detect-clean, detect-bad, correct-sure, recover-clean, recover-sure, right, cost, worst}
 use Rattle.policies.specs.Runs.{Run, mark-after, costs, rights}
-use Rattle.policies.specs.Promises.{Keeps}
-use Rattle.policies.specs.Patterns.{moves, plan-of-bit, pattern-plan, pattern-next, bit-cost, pattern-demand}
+use Rattle.policies.specs.Promises.{most-per-job, Keeps}
+use Rattle.policies.specs.Patterns.{moves, plan-of-bit, pattern-plan, pattern-next, cost-of-bit, bit-cost, pattern-demand}
 use Rattle.policies.specs.Techniques.{rearranging, technique-plan, technique-next, technique-demand}
 use Rattle.policies.proofs.RunLemmas.{run-rest}
+use Rattle.policies.proofs.Costs.{cost-small}
 
--- no job costs more than two million
-pub worst-small : (l : Line) (p : Plan) → worst l p ≤ 2000000
+-- no job costs more than a policy may demand for it
+pub worst-small : (l : Line) (p : Plan) → worst l p ≤ most-per-job
 worst-small l Bare = omega (arith, l .ordered)
 worst-small l Detect = omega (arith, l .ordered)
 worst-small l Correct = omega (arith, l .ordered)
@@ -67,7 +68,7 @@ data Plans : Plan → Plan → Type 0 where
 -- what one allowed ending does: the mark stays, the job is right and costs no more than a zero; or the mark
 -- goes on, the job is right if the bit is 1 and costs no more than the bit
 abbrev Step : Line → Plan → Plan → ℕ → Ending → Type 0
-Step l z o b e = ((moves (plan-of-bit z o b) e ≡ false) × (1 ≤ right e) × (cost l (plan-of-bit z o b) e ≤ worst l z)) ⊎ ((moves (plan-of-bit z o b) e ≡ true) × (b ≤ right e) × (cost l (plan-of-bit z o b) e ≤ worst l (plan-of-bit z o b)))
+Step l z o b e = ((moves (plan-of-bit z o b) e ≡ false) × (1 ≤ right e) × (cost l (plan-of-bit z o b) e ≤ worst l z)) ⊎ ((moves (plan-of-bit z o b) e ≡ true) × (b ≤ right e) × (cost l (plan-of-bit z o b) e ≤ cost-of-bit (worst l z) (worst l o) b))
 
 step : (l : Line) {z o : Plan} → Plans z o → (b : ℕ) {e : Ending} → b ≤ 1 → Allows (plan-of-bit z o b) e → Step l z o b e
 step l sre zero h bare-blind = inr (refl, omega arith, omega arith)
@@ -84,7 +85,7 @@ step l ddr (suc b) h recover-clean = inr (refl, omega arith, omega arith)
 step l ddr (suc b) h recover-sure = inr (refl, omega arith, omega arith)
 
 -- a zero costs least
-least : (l : Line) {z o : Plan} → Plans z o → (b : ℕ) → worst l z ≤ worst l (plan-of-bit z o b)
+least : (l : Line) {z o : Plan} → Plans z o → (b : ℕ) → worst l z ≤ cost-of-bit (worst l z) (worst l o) b
 least l plans zero = omega arith
 least l sre (suc b) = omega (arith, l .ordered)
 least l sdr (suc b) = omega (arith, l .ordered)
@@ -96,7 +97,7 @@ module _ (l : Line) {z o : Plan} (plans : Plans z o) (s : ℕ) where
   b = turned-bit (l .word) (l .k) s
 
   c : ℕ → ℕ
-  c x = worst l (plan-of-bit z o (turned-bit (l .word) (l .k) s x))
+  c x = cost-of-bit (worst l z) (worst l o) (turned-bit (l .word) (l .k) s x)
 
   small : (x : ℕ) → turned-bit (l .word) (l .k) s x ≤ 1
   small x = omega arith
@@ -116,14 +117,14 @@ module _ (l : Line) {z o : Plan} (plans : Plans z o) (s : ℕ) where
 
   -- a run has at least as many right endings as the bits in a row from its mark have ones
   rights-row : (q : ℕ) (es : List Ending) → Run (pattern-plan z o s l) (pattern-next z o s l) q es → row b (l .k) q (length es) ≤ rights es
-  unfolding b
+  unfolding b c
   rights-row q [] r = omega (arith, row-none b (l .k) q)
   rights-row q (e ∷ es) r =
       let n = length es in
       let rest = rights-row (pattern-next z o s l q e) es (r .1) in
       ⊎-elim
       (λ (h : (moves (pattern-plan z o s l q) e ≡ false) × (1 ≤ right e) × (cost l (pattern-plan z o s l q) e ≤ worst l z)). omega (arith, rest, ap (λ i. row b (l .k) i n) (stays q e (h .0)), row-last b (l .k) q n, small ((q + n) % l .k), h .1))
-      (λ (h : (moves (pattern-plan z o s l q) e ≡ true) × (b (q % l .k) ≤ right e) × (cost l (pattern-plan z o s l q) e ≤ worst l (pattern-plan z o s l q))). omega (arith, rest, ap (λ i. row b (l .k) i n) (goes q e (h .0)), on b q n, row-first b (l .k) q n, h .1))
+      (λ (h : (moves (pattern-plan z o s l q) e ≡ true) × (b (q % l .k) ≤ right e) × (cost l (pattern-plan z o s l q) e ≤ c (q % l .k))). omega (arith, rest, ap (λ i. row b (l .k) i n) (goes q e (h .0)), on b q n, row-first b (l .k) q n, h .1))
       (step l plans (turned-bit (l .word) (l .k) s (q % l .k)) (small (q % l .k)) (r .0))
 
   -- it costs no more than the bits in a row
@@ -135,7 +136,7 @@ module _ (l : Line) {z o : Plan} (plans : Plans z o) (s : ℕ) where
       let rest = costs-row (pattern-next z o s l q e) es (r .1) in
       ⊎-elim
       (λ (h : (moves (pattern-plan z o s l q) e ≡ false) × (1 ≤ right e) × (cost l (pattern-plan z o s l q) e ≤ worst l z)). omega (arith, rest, ap (λ i. row c (l .k) i n) (stays q e (h .0)), row-last c (l .k) q n, least l plans (turned-bit (l .word) (l .k) s ((q + n) % l .k)), h .2))
-      (λ (h : (moves (pattern-plan z o s l q) e ≡ true) × (turned-bit (l .word) (l .k) s (q % l .k) ≤ right e) × (cost l (pattern-plan z o s l q) e ≤ worst l (pattern-plan z o s l q))). omega (arith, rest, ap (λ i. row c (l .k) i n) (goes q e (h .0)), on c q n, row-first c (l .k) q n, h .2))
+      (λ (h : (moves (pattern-plan z o s l q) e ≡ true) × (turned-bit (l .word) (l .k) s (q % l .k) ≤ right e) × (cost l (pattern-plan z o s l q) e ≤ c (q % l .k))). omega (arith, rest, ap (λ i. row c (l .k) i n) (goes q e (h .0)), on c q n, row-first c (l .k) q n, h .2))
       (step l plans (turned-bit (l .word) (l .k) s (q % l .k)) (small (q % l .k)) (r .0))
 
   pattern-keeps : Keeps l (pattern-plan z o s l) (pattern-next z o s l) (pattern-demand z o l)
@@ -149,7 +150,7 @@ module _ (l : Line) {z o : Plan} (plans : Plans z o) (s : ℕ) where
         omega (arith, costs-row q jobs (run-rest (pattern-plan z o s l) (pattern-next z o s l) 0 before jobs r), row-turned (bit-cost z o l) (l .k) s q (length jobs), row-greatest (bit-cost z o l) (l .k) some (q + s) (length jobs));
     none = greatest-row-none (bit-cost z o l) (l .k);
     rising = λ x y h n. greatest-row-rises (bit-cost z o l) (l .k) some x y h;
-    capped = λ n h. omega (arith, greatest-row-bound (bit-cost z o l) (l .k) 2000000 (λ x. worst-small l (plan-of-bit z o (bit (l .word) x))) n);
+    capped = λ n h. omega (arith, greatest-row-bound (bit-cost z o l) (l .k) most-per-job (λ x. cost-small (worst l z) (worst l o) (l .word) x (worst-small l z) (worst-small l o)) n);
   }
 
 -- ---- all five

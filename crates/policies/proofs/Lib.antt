@@ -1,2 +1,4 @@
 mod RunLemmas
+mod Costs
 pub mod Kept
+pub mod Promised

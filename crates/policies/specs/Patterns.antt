@@ -43,9 +43,17 @@ pattern-plan on-zero on-one turn l mark = plan-of-bit on-zero on-one (turned-bit
 abbrev pub pattern-next : Plan → Plan → ℕ → Line → ℕ → Ending → ℕ
 pattern-next on-zero on-one turn l mark e = cond (moves (pattern-plan on-zero on-one turn l mark) e) ((mark + 1) % l .k) mark
 
--- what the bit at a place of the word costs
+-- what the bit at a place of a word costs, given what a 0 and a 1 cost
+abbrev pub cost-of-bit : ℕ → ℕ → ℕ → ℕ
+cost-of-bit zero-cost one-cost zero = zero-cost
+cost-of-bit zero-cost one-cost (suc b) = one-cost
+
+abbrev pub cost-at : ℕ → ℕ → ℕ → ℕ → ℕ
+cost-at zero-cost one-cost w place = cost-of-bit zero-cost one-cost (bit w place)
+
+-- what the bit at a place of a line's word costs: the most that a job of the bit's plan costs
 abbrev pub bit-cost : Plan → Plan → Line → ℕ → ℕ
-bit-cost on-zero on-one l place = worst l (plan-of-bit on-zero on-one (bit (l .word) place))
+bit-cost on-zero on-one l place = cost-at (worst l on-zero) (worst l on-one) (l .word) place
 
 -- the demand of n jobs: the greatest sum of n consecutive bits' costs, going round the word
 abbrev pub pattern-demand : Plan → Plan → Line → ℕ → ℕ

@@ -16,6 +16,10 @@ pub record Meaning : Type 0 where
   pub next : Line → ℕ → Ending → ℕ
   pub demand : Line → ℕ → ℕ
 
+-- the meaning with these members
+abbrev pub meant : (Line → Bool) → (Line → ℕ → Plan) → (Line → ℕ → Ending → ℕ) → (Line → ℕ → ℕ) → Meaning
+meant t p n d = record { takes = t; plan = p; next = n; demand = d }
+
 -- the most that a policy may demand for a job
 abbrev pub most-per-job : ℕ
 most-per-job = 2000000

@@ -3,3 +3,4 @@ pub mod by_line;
 pub mod pattern;
 pub mod policy;
 pub mod technique;
+mod windows;

@@ -1,10 +1,12 @@
 // Policies that go by the bits of a line's word, one after the other, going round: what they share, given the
 // plans of a 0 and of a 1 and by how many places the word is turned left.
-ghost use Prim.Native.Nat.{ℕ, _*_, _<_, _≤_};
+ghost use Prim.Native.Nat.{ℕ, _*_, _≤_};
 ghost use mathlib.Core.Path.{_≡_};
-ghost use Rattle.words.specs.Sums.{sum-below, greatest-row, Greatest-row};
+ghost use Rattle.words.specs.Sums.{sum-below, Greatest-row};
 ghost use Rattle.policies.specs.Endings.{Allows, worst};
-ghost use Rattle.policies.specs.Patterns.{moves, plan-of-bit, pattern-plan, pattern-next, bit-cost, pattern-demand};
+ghost use Rattle.policies.specs.Promises.{most-per-job};
+ghost use Rattle.policies.specs.Patterns.{moves, plan-of-bit, pattern-plan, pattern-next, cost-at, bit-cost, pattern-demand};
+use crate::windows::greatest_window;
 use tasks::job::Ending;
 use tasks::job::Plan;
 use tasks::job::Version;
@@ -63,7 +65,7 @@ pub fn next_on(
 // The most that a job of a plan costs.
 pub(crate) fn worst_of(line: &Line, plan: Plan) -> u64
     ensures is { λ r. ⌜ r ≡ worst (now (line .entry)) plan ⌝ }
-    ensures small { λ r. ⌜ r ≤ 2000000 ⌝ }
+    ensures small { λ r. ⌜ r ≤ most-per-job ⌝ }
 {
     match plan {
         Plan::Bare => line.time(Version::Bare) as u64,
@@ -73,42 +75,13 @@ pub(crate) fn worst_of(line: &Line, plan: Plan) -> u64
     }
 }
 
-fn cost_at(line: &Line, on_zero: Plan, on_one: Plan, place: u32) -> u64
-    ensures is { λ r. ⌜ r ≡ bit-cost «on_zero» «on_one» (now (line .entry)) place ⌝ }
-    ensures small { λ r. ⌜ r ≤ 2000000 ⌝ }
+// What all the bits of a line's word cost together: its m ones and its zeros.
+fn cost_of_round(line: &Line, zero_cost: u64, one_cost: u64) -> u64
+    requires { ⌜ («zero_cost» ≤ most-per-job) × («one_cost» ≤ most-per-job) ⌝ }
+    ensures is { λ r. ⌜ r ≡ sum-below (cost-at «zero_cost» «one_cost» (now (line .entry) .word)) (now (line .entry) .k) ⌝ }
+    ensures small { λ r. ⌜ r ≤ most-per-job * now (line .entry) .k ⌝ }
 {
-    worst_of(line, plan_of_bit(on_zero, on_one, bit_at(line.word, place)))
-}
-
-// What the first n bits cost together.
-fn cost_of_first(line: &Line, on_zero: Plan, on_one: Plan, n: u32) -> u64
-    requires { ⌜ n ≤ 64 ⌝ }
-    ensures is { λ r. ⌜ r ≡ sum-below (bit-cost «on_zero» «on_one» (now (line .entry))) n ⌝ }
-    ensures small { λ r. ⌜ r ≤ 2000000 * n ⌝ }
-{
-    let mut total = 0;
-    for place in 0..n {
-        total += cost_at(line, on_zero, on_one, place);
-    }
-    total
-}
-
-// The greatest sum of n consecutive bits' costs, going round, n less than k.
-fn greatest_window(line: &Line, on_zero: Plan, on_one: Plan, n: u32) -> u64
-    requires { ⌜ n < now line .k ⌝ }
-    ensures is { λ r. ⌜ r ≡ greatest-row (bit-cost «on_zero» «on_one» (now (line .entry))) (now (line .entry) .k) n ⌝ }
-    ensures small { λ r. ⌜ r ≤ 2000000 * n ⌝ }
-{
-    let mut sum = cost_of_first(line, on_zero, on_one, n);
-    let mut greatest = 0;
-    for start in 0..line.k {
-        if greatest < sum {
-            greatest = sum;
-        }
-        let entering = cost_at(line, on_zero, on_one, (start + n) % line.k);
-        sum = sum + entering - cost_at(line, on_zero, on_one, start);
-    }
-    greatest
+    line.m as u64 * one_cost + (line.k - line.m) as u64 * zero_cost
 }
 
 // The demand of a number of jobs: the greatest sum of as many consecutive bits' costs, going round.
@@ -116,7 +89,9 @@ pub fn demand_on(line: &Line, on_zero: Plan, on_one: Plan, jobs: u32) -> u64
     ensures is { λ r. ⌜ r ≡ pattern-demand «on_zero» «on_one» (now (line .entry)) jobs ⌝ }
     ensures greatest { λ r. ⌜ Greatest-row (bit-cost «on_zero» «on_one» (now (line .entry))) (now (line .entry) .k) jobs r ⌝ }
 {
+    let zero_cost = worst_of(line, on_zero);
+    let one_cost = worst_of(line, on_one);
     let rounds = (jobs / line.k) as u64;
-    let round = cost_of_first(line, on_zero, on_one, line.k);
-    rounds * round + greatest_window(line, on_zero, on_one, jobs % line.k)
+    let round = cost_of_round(line, zero_cost, one_cost);
+    rounds * round + greatest_window(line.word, line.k, zero_cost, one_cost, jobs % line.k)
 }

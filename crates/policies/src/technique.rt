@@ -90,3 +90,52 @@ pub impl Policy for Technique as TechniquePolicy {
         }
     }
 }
+
+#[cfg(test)]
+mod tests {
+    use super::*;
+    use std::test::*;
+    use tasks::line::Times;
+    use tasks::name::Name;
+
+    fn line(word: u64) -> Option<Line> {
+        let times = Times {
+            bare: 10,
+            detect: 11,
+            correct: 20,
+        };
+        Line::new(Name::new(b"CAM")?, Technique::Sre, 2, 4, word, times, 40)
+    }
+
+    #[test]
+    fn demands_go_round_the_word() -> Result<(), Fail> {
+        // 0101 and 0011, bit 0 first
+        let Some(spread) = line(10) else {
+            return Err(Fail::new("no line"));
+        };
+        let Some(last) = line(12) else {
+            return Err(Fail::new("no line"));
+        };
+        check_eq(Technique::Sre.demand_of(&spread, 0), 0)?;
+        check_eq(Technique::Sre.demand_of(&spread, 1), 20)?;
+        check_eq(Technique::Sre.demand_of(&spread, 2), 30)?;
+        check_eq(Technique::Sre.demand_of(&spread, 5), 80)?;
+        check_eq(Technique::Dre.demand_of(&spread, 5), 82)?;
+        check_eq(Technique::Sre.demand_of(&last, 2), 40)?;
+        check_eq(Technique::Fr.demand_of(&last, u32::MAX), 85899345900)
+    }
+
+    #[test]
+    fn marks_of_all_sizes() -> Result<(), Fail> {
+        let Some(last) = line(12) else {
+            return Err(Fail::new("no line"));
+        };
+        check_eq(Technique::Sre.next_mark(&last, u64::MAX, Ending::Sure), 0)?;
+        check_eq(
+            Technique::Sre.next_mark(&last, u64::MAX, Ending::Clean),
+            u64::MAX,
+        )?;
+        check_eq(Technique::Dre.next_mark(&last, 4, Ending::Clean), 4)?;
+        check_eq(Technique::Dre.next_mark(&last, 4, Ending::Bad), 1)
+    }
+}

@@ -102,3 +102,56 @@ pub fn figures<P: Policy>(
     fill(policy, lines, figures);
     Ok(is_admitted(figures, lines.len()))
 }
+
+#[cfg(test)]
+mod tests {
+    use super::*;
+    use policies::by_line::ByLine;
+    use policies::by_line::ByLinePolicy;
+    use std::test::*;
+    use tasks::line::Times;
+    use tasks::name::Name;
+    use tasks::technique::Technique;
+
+    // A camera with the technique and word, and an arm below it.
+    fn cameras(technique: Technique, word: u64, correct: u32) -> Option<Table> {
+        let mut table = Table::new();
+        let times = Times {
+            bare: 10,
+            detect: 11,
+            correct,
+        };
+        let camera = Line::new(Name::new(b"CAM")?, technique, 2, 4, word, times, 40)?;
+        let times = Times {
+            bare: 30,
+            detect: 40,
+            correct: 50,
+        };
+        let arm = Line::new(Name::new(b"ARM")?, Technique::Sre, 1, 1, 1, times, 80)?;
+        if table.push(camera).is_err() || table.push(arm).is_err() {
+            return None;
+        }
+        Some(table)
+    }
+
+    // The first two places, and the number and the line of the refusal, or 0 and 1 for admitted, 0 and 0 for not.
+    fn figures_of(table: Option<Table>) -> [u32; 4] {
+        let mut places = [7; 32];
+        let Some(table) = table else {
+            return [0; 4];
+        };
+        match figures(&ByLine {}, &table, &mut places) {
+            Ok(admitted) => [places[0], places[1], 0, u32::from(admitted)],
+            Err(refusal) => [places[0], places[1], refusal.number(), refusal.line()],
+        }
+    }
+
+    #[test]
+    fn cameras_and_arms() -> Result<(), Fail> {
+        check_eq(figures_of(cameras(Technique::Sre, 10, 20)), [20, 80, 0, 1])?;
+        check_eq(figures_of(cameras(Technique::Sre, 12, 20)), [20, 0, 0, 0])?;
+        check_eq(figures_of(cameras(Technique::Dre, 10, 20)), [20, 0, 0, 0])?;
+        check_eq(figures_of(cameras(Technique::Sdr, 10, 30)), [0, 0, 8, 1])?;
+        check_eq(figures_of(Some(Table::new())), [0, 0, 9, 0])
+    }
+}

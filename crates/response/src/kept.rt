@@ -3,6 +3,7 @@ ghost use Prim.Native.Nat.{_+_, _≤_};
 ghost use mathlib.Core.Path.{_≡_};
 ghost use mathlib.Core.Bool.{true};
 ghost use lib.ListN.{length};
+ghost use Rattle.policies.specs.Promises.{most-per-job};
 ghost use Rattle.response.specs.Figures.{jobs-by, load-above, Taken};
 ghost use Rattle.response.specs.Told.{Told, All-told};
 use crate::asks::demanded;
@@ -42,7 +43,7 @@ pub(crate) fn load_at<P: Policy>(
     known: &mut [Kept; 32],
     t: u32,
 ) -> u64
-    requires small { ⌜ length (now above) ≤ 32 ⌝ ∗ ⌜ own ≤ 2000000 ⌝ ∗ ⌜ t ≤ 1000000 ⌝ }
+    requires small { ⌜ length (now above) ≤ 32 ⌝ ∗ ⌜ own ≤ most-per-job ⌝ ∗ ⌜ t ≤ 1000000 ⌝ }
     requires taken { ⌜ Taken (P·Policy .takes (now policy)) (now above) (length (now above)) ⌝ }
     requires told { ⌜ All-told (P·Policy .demand (now policy)) (now above) (now known) ⌝ }
     ensures is { λ r. ⌜ r ≡ own + load-above (P·Policy .demand (now (policy .entry))) (now (above .entry)) t ⌝ }

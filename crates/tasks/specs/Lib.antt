@@ -5,3 +5,4 @@ pub mod Lines
 pub mod Refused
 pub mod Tables
 pub mod Twins
+pub mod Rows

@@ -1,1 +1,13 @@
-mod Digits
+pub mod Steps
+pub mod Ones
+pub mod Techniques
+pub mod Cutting
+pub mod Broken
+pub mod Tables
+pub mod Readings
+pub mod Spelling
+pub mod Joining
+pub mod Growth
+pub mod Sound
+pub mod Whole
+pub mod Laws

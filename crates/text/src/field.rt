@@ -4,11 +4,13 @@ ghost use mathlib.Core.Path.{_≡_};
 ghost use mathlib.Core.Bool.{true};
 ghost use lib.ListN.{length};
 ghost use Rattle.tasks.specs.Bytes.{every, digit};
+ghost use Rattle.text.specs.Cuts.{lead, count};
 ghost use Rattle.text.specs.Forms.{binary, is-number};
+ghost use Rattle.text.specs.Values.{number-of, bits-of};
 
 // How many bytes stand before the first `mark`.
 pub(crate) fn lead_to(bytes: &[u8], mark: u8) -> usize
-    ensures { λ r. ⌜ r ≤ length (now (bytes .entry)) ⌝ }
+    ensures { λ r. ⌜ r ≡ lead mark (now (bytes .entry)) ⌝ ∗ ⌜ r ≤ length (now (bytes .entry)) ⌝ }
 {
     for (i, byte) in bytes.iter().enumerate() {
         if *byte == mark {
@@ -20,22 +22,28 @@ pub(crate) fn lead_to(bytes: &[u8], mark: u8) -> usize
 
 // How many of the bytes are `mark`.
 pub(crate) fn marks(bytes: &[u8], mark: u8) -> usize
-    ensures { λ r. ⌜ r ≤ length (now (bytes .entry)) ⌝ }
+    ensures { λ r. ⌜ r ≡ count mark (now (bytes .entry)) ⌝ }
 {
-    let mut count = 0;
+    let mut found = 0;
     for byte in bytes {
         if *byte == mark {
-            count += 1;
+            found += 1;
         }
     }
-    count
+    found
+}
+
+fn is_digit(byte: u8) -> bool
+    ensures { λ r. ⌜ r ≡ digit byte ⌝ }
+{
+    matches!(byte, b'0'..=b'9')
 }
 
 fn all_digits(bytes: &[u8]) -> bool
     ensures { λ r. ⌜ r ≡ every digit (now (bytes .entry)) ⌝ }
 {
     for byte in bytes {
-        if *byte < b'0' || *byte > b'9' {
+        if !is_digit(*byte) {
             return false;
         }
     }
@@ -56,7 +64,7 @@ pub(crate) fn is_number(bytes: &[u8]) -> bool
 // The number that such digits write.
 pub(crate) fn number(digits: &[u8]) -> u32
     requires { ⌜ is-number (now digits) ≡ true ⌝ }
-    ensures { λ r. ⌜ r < 10000000 ⌝ }
+    ensures { λ r. ⌜ r ≡ number-of (now (digits .entry)) ⌝ ∗ ⌜ 1 ≤ r ⌝ ∗ ⌜ r < 10000000 ⌝ }
 {
     let mut value: u32 = 0;
     for digit in digits {
@@ -65,11 +73,17 @@ pub(crate) fn number(digits: &[u8]) -> u32
     value
 }
 
+fn is_bit(byte: u8) -> bool
+    ensures { λ r. ⌜ r ≡ binary byte ⌝ }
+{
+    matches!(byte, b'0' | b'1')
+}
+
 pub(crate) fn all_bits(bytes: &[u8]) -> bool
     ensures { λ r. ⌜ r ≡ every binary (now (bytes .entry)) ⌝ }
 {
     for byte in bytes {
-        if *byte != b'0' && *byte != b'1' {
+        if !is_bit(*byte) {
             return false;
         }
     }
@@ -78,8 +92,8 @@ pub(crate) fn all_bits(bytes: &[u8]) -> bool
 
 // The word that bits write, bit 0 first.
 pub(crate) fn bits_word(bytes: &[u8]) -> u64
-    requires { ⌜ (every binary (now bytes) ≡ true) × (length (now bytes) ≤ 64) ⌝ }
-    ensures { λ r. ⌜ r < 2 ^ length (now (bytes .entry)) ⌝ }
+    requires { ⌜ every binary (now bytes) ≡ true ⌝ ∗ ⌜ length (now bytes) ≤ 64 ⌝ }
+    ensures { λ r. ⌜ r ≡ bits-of (now (bytes .entry)) ⌝ ∗ ⌜ r < 2 ^ length (now (bytes .entry)) ⌝ }
 {
     match bytes {
         [] => 0,

@@ -1,10 +1,17 @@
 // The field layer: a part of the text, held to the form of its field.
-ghost use Prim.Native.Nat.{_<_};
+ghost use Prim.Native.Nat.{ℕ, _^_, _<_, _≤_};
 ghost use mathlib.Core.Path.{_≡_};
-ghost use Rattle.std.specs.Slices.{found};
-ghost use Rattle.std.specs.Vec.{made};
+ghost use mathlib.Core.Bool.{true, false};
+ghost use Rattle.std.specs.Options.{Cases};
+ghost use Rattle.words.specs.Bits.{ones};
+ghost use Rattle.words.specs.Patterns.{Window};
+ghost use Rattle.tasks.specs.Named.{name-bytes};
+ghost use Rattle.tasks.specs.declared.refusal.Refusal.the-variants as refusal;
 ghost use Rattle.text.specs.declared.token.Form.the-variants as form;
-ghost use Rattle.text.specs.Tokens.{Has-form};
+ghost use Rattle.text.specs.Forms.{has-form};
+ghost use Rattle.text.specs.Values.{technique-of, fits, field-word};
+ghost use Rattle.text.specs.Rules.{num};
+ghost use Rattle.text.specs.Layers.{part-of, Held, Is-token, token-part, Is-pattern};
 use crate::field::all_bits;
 use crate::field::bits_word;
 use crate::field::is_number;
@@ -46,7 +53,7 @@ pub enum Form {
 
 // The letter R or E, or bits.
 fn pattern_token<'a>(part: Part<'a>) -> Option<Token<'a>>
-    ensures { λ r. ⌜ found r (Has-form form.Pattern) ⌝ }
+    ensures { λ r. ⌜ Cases r (has-form form.Pattern (now (part .entry .bytes)) ≡ false) (λ t. (has-form form.Pattern (now (part .entry .bytes)) ≡ true) × Is-token form.Pattern (part-of (part .entry)) t) ⌝ }
 {
     match part.bytes {
         [b'R'] => Some(Token::Word(part)),
@@ -58,20 +65,37 @@ fn pattern_token<'a>(part: Part<'a>) -> Option<Token<'a>>
 
 impl Form {
     fn token<'a>(self, part: Part<'a>) -> Option<Token<'a>>
-        ensures { λ r. ⌜ found r (Has-form self) ⌝ }
+        ensures { λ r. ⌜ Cases r (has-form self (now (part .entry .bytes)) ≡ false) (λ t. (has-form self (now (part .entry .bytes)) ≡ true) × Is-token self (part-of (part .entry)) t) ⌝ }
     {
         match self {
-            Form::Name if Name::new(part.bytes).is_some() => Some(Token::Name(part)),
-            Form::Technique if Technique::named(part.bytes).is_some() => Some(Token::Word(part)),
-            Form::Number if is_number(part.bytes) => Some(Token::Number(part)),
+            Form::Name => {
+                if Name::new(part.bytes).is_some() {
+                    Some(Token::Name(part))
+                } else {
+                    None
+                }
+            }
+            Form::Technique => {
+                if Technique::named(part.bytes).is_some() {
+                    Some(Token::Word(part))
+                } else {
+                    None
+                }
+            }
+            Form::Number => {
+                if is_number(part.bytes) {
+                    Some(Token::Number(part))
+                } else {
+                    None
+                }
+            }
             Form::Pattern => pattern_token(part),
-            _ => None,
         }
     }
 
     // The token that a field is; a field against the form is refused at its place.
     pub fn read<'a>(self, part: Part<'a>, line: u32) -> Result<Token<'a>, Refusal>
-        ensures { λ r. ⌜ made r (Has-form self) ⌝ }
+        ensures { λ r. ⌜ Held r (has-form self (now (part .entry .bytes))) (refusal.Form line (part .entry .place)) (Is-token self (part-of (part .entry))) ⌝ }
     {
         match self.token(part) {
             Some(token) => Ok(token),
@@ -83,7 +107,9 @@ impl Form {
     }
 }
 
-pub(crate) fn name_field<'a>(part: Part<'a>, line: u32) -> Result<Name, Refusal> {
+pub(crate) fn name_field<'a>(part: Part<'a>, line: u32) -> Result<Name, Refusal>
+    ensures { λ r. ⌜ Held r (has-form form.Name (now (part .entry .bytes))) (refusal.Form line (part .entry .place)) (λ n. name-bytes n ≡ now (part .entry .bytes)) ⌝ }
+{
     let Token::Name(name) = Form::Name.read(part, line)? else {
         return unreachable();
     };
@@ -93,7 +119,9 @@ pub(crate) fn name_field<'a>(part: Part<'a>, line: u32) -> Result<Name, Refusal>
     }
 }
 
-pub(crate) fn technique_field<'a>(part: Part<'a>, line: u32) -> Result<Technique, Refusal> {
+pub(crate) fn technique_field<'a>(part: Part<'a>, line: u32) -> Result<Technique, Refusal>
+    ensures { λ r. ⌜ Held r (has-form form.Technique (now (part .entry .bytes))) (refusal.Form line (part .entry .place)) (λ t. t ≡ technique-of (now (part .entry .bytes))) ⌝ }
+{
     let Token::Word(word) = Form::Technique.read(part, line)? else {
         return unreachable();
     };
@@ -104,7 +132,7 @@ pub(crate) fn technique_field<'a>(part: Part<'a>, line: u32) -> Result<Technique
 }
 
 pub(crate) fn number_field<'a>(part: Part<'a>, line: u32) -> Result<u32, Refusal>
-    ensures { λ r. ⌜ made r (λ v. v < 10000000) ⌝ }
+    ensures { λ r. ⌜ Held r (has-form form.Number (now (part .entry .bytes))) (refusal.Form line (part .entry .place)) (λ v. (v ≡ num (part-of (part .entry))) × (1 ≤ v) × (v < 10000000)) ⌝ }
 {
     let Token::Number(digits) = Form::Number.read(part, line)? else {
         return unreachable();
@@ -112,27 +140,37 @@ pub(crate) fn number_field<'a>(part: Part<'a>, line: u32) -> Result<u32, Refusal
     Ok(number(digits.bytes))
 }
 
-// The word that a pattern field stands for, with m ones of k bits.
-pub(crate) fn pattern_field<'a>(part: Part<'a>, m: u32, k: u32, line: u32) -> Result<u64, Refusal> {
-    let word = match Form::Pattern.read(part, line)? {
+// The word that a pattern stands for, with m ones of k bits; bits that do not fit are refused at their place.
+pub(crate) fn pattern_word<'a>(
+    pattern: Token<'a>,
+    m: u32,
+    k: u32,
+    line: u32,
+) -> Result<u64, Refusal>
+    requires { ⌜ Window m k ⌝ ∗ ⌜ Is-pattern pattern ⌝ }
+    ensures { λ r. ⌜ Held r (fits m k (token-part (pattern .entry) .bytes)) (refusal.Value line (token-part (pattern .entry) .place)) (λ w. (w ≡ field-word m k (token-part (pattern .entry) .bytes)) × (ones k w ≡ m) × (w < 2 ^ k)) ⌝ }
+{
+    match pattern {
         Token::Bits(bits) => {
             if bits.bytes.len() == k as usize && marks(bits.bytes, b'1') == m as usize {
-                Some(bits_word(bits.bytes))
+                Ok(bits_word(bits.bytes))
             } else {
-                None
+                Err(Refusal::Value {
+                    line,
+                    place: bits.place,
+                })
             }
         }
-        Token::Word(letter) => match letter.bytes {
-            [b'R'] => Pattern::R.word(m, k),
-            _ => Pattern::E.word(m, k),
-        },
+        Token::Word(letter) => {
+            let ready = match letter.bytes {
+                [b'R'] => Pattern::R,
+                _ => Pattern::E,
+            };
+            match ready.word(m, k) {
+                Some(word) => Ok(word),
+                None => unreachable(),
+            }
+        }
         _ => unreachable(),
-    };
-    match word {
-        Some(word) => Ok(word),
-        None => Err(Refusal::Value {
-            line,
-            place: part.place,
-        }),
     }
 }

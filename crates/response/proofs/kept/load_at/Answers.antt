@@ -39,7 +39,7 @@ loop-i-again g c =
     let share = λ (x : Line). demand x (jobs-by x t) in
     let taken = subst (λ (x : Line). g .P·Policy .takes p x ≡ true) (sym (c .index-above-i .is)) (c .pre .taken i h (c .loop-i-test .taken)) in
     let more = sumBy-more share (c .args .above .now) i h (c .loop-i-test .taken) in
-    let is : c .kept-at-fresh .result .demand ≡ share h = c .kept-at-fresh .ensures .told ∙ ap (demand h) (c .kept-at-fresh .ensures .jobs) in (
+    let is : c .kept-at-fresh .result .demand ≡ share h = subst (λ (n : ℕ). c .kept-at-fresh .result .demand ≡ demand h n) (c .kept-at-fresh .ensures .jobs) (c .kept-at-fresh .ensures .told) in (
       omega (arith, c .loop-i .inv .0, more, ap share (c .index-above-i .is), is),
       omega (arith, c .loop-i .inv .1, is, share-small (g .P·Policy·met .capped p) h t taken (omega (arith, c .pre .small))),
       length-set (c .loop-i .known) i (c .kept-at-fresh .result) ∙ c .loop-i .inv .2,

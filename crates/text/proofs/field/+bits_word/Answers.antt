@@ -1,27 +1,25 @@
 use mathlib.Core.Path.{_≡_, sym, _∙_, ap}
-use mathlib.Core.Bool.{true}
-use Prim.Native.Nat.{_<_, _≤_, _-_, _+_, _*_, _^_}
-use native.Mathlib.Nat.{pow-succ'}
+use Prim.Native.Nat.{_<_, _-_, _+_, _*_}
 use native.Mathlib.Omega.{arith}
 use borrow.Author.Needs.{needs}
-use lib.Dec.{leb}
-use lib.ListN.{length, getD, take, drop}
-use Rattle.std.proofs.shelf.Lists.{length-drop}
-use Rattle.std.proofs.shelf.Parts.{first-rest}
-use Rattle.std.proofs.shelf.Tests.{and-parts, leb-true}
-use Rattle.tasks.specs.Bytes.{every}
+use lib.ListN.{length, getD}
 use Rattle.text.specs.Forms.{binary}
-use Rattle.text.proofs.Digits.{bit-fits}
+use Rattle.text.proofs.Steps.{bits-first, every-rest, bits-none, bits-below}
 use Rattle.text.proofs.field.+bits_word.Needs as need
 
 pub bits-word-requires : need.bits-word-requires
 bits-word-requires t c κs =
-    let bs = c .args .bytes .now in
-    let h : 0 < length bs = search needs in
-    let p = and-parts (binary (getD bs 0 0)) _ (sym (ap (every binary) (first-rest bs 0 h)) ∙ c .pre .0) in
-    (search needs, (p .1, search needs))
+    let h : 0 < length (c .args .bytes .now) = search needs in
+    (search needs, (every-rest binary (c .args .bytes .now) h (c .pre .0), search needs))
+
+pub returns-in-empty : need.returns-in-empty
+returns-in-empty t c =
+    let z : length (c .args .bytes .now) ≡ 0 = search needs in
+    let e = bits-none (c .args .bytes .now) z in
+    (e, omega (arith, e, bits-below (c .args .bytes .now) (c .pre .0)))
 
 pub returns-in-len1-up : need.returns-in-len1-up
 returns-in-len1-up t c =
     let h : 0 < length (c .args .bytes .now) = search needs in
-    bit-fits (c .args .bytes .now) (c .bits-word .result) h (c .pre .0) (c .bits-word .ensures)
+    let e = ap (λ x. (getD (c .args .bytes .now) 0 0 - 48) + 2 * x) (c .bits-word .ensures .0) ∙ sym (bits-first (c .args .bytes .now) h) in
+    (e, omega (arith, e, bits-below (c .args .bytes .now) (c .pre .0)))

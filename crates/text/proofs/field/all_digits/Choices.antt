@@ -1,7 +1,6 @@
 use mathlib.Core.Path.{_≡_}
 use lib.ListN.{drop}
-use Rattle.tasks.specs.Bytes.{every}
-use Rattle.tasks.specs.Bytes.{digit}
+use Rattle.tasks.specs.Bytes.{every, digit}
 use Rattle.text.proofs.field.all_digits.Given as given
 
 abbrev pub Inv-loop-byte : given.InvT-loop-byte
