@@ -2,8 +2,10 @@
 use mathlib.Core.List.{List, map}
 use Prim.Native.Nat.{ℕ}
 use Rattle.tasks.specs.declared.technique.Technique.{Technique}
+use Rattle.tasks.specs.declared.job.Version.the-variants.{Bare, Detect, Correct}
 use Rattle.tasks.specs.declared.line.Line.{Line}
 use Rattle.tasks.specs.declared.table.Table.{Table}
+use Rattle.tasks.specs.Lines.{time}
 use Rattle.tasks.specs.Named.{name-bytes}
 use Rattle.tasks.specs.Tables.{lines-of}
 
@@ -26,9 +28,9 @@ row-of l = record {
   m = l .m;
   k = l .k;
   word = l .word;
-  bare = l .times .bare;
-  detect = l .times .detect;
-  correct = l .times .correct;
+  bare = time l Bare;
+  detect = time l Detect;
+  correct = time l Correct;
   period = l .period;
 }
 

@@ -23,7 +23,7 @@ use Rattle.tasks.specs.declared.line.Line.{Line}
 use Rattle.tasks.specs.declared.refusal.Refusal.{Refusal}
 use Rattle.tasks.specs.declared.refusal.Refusal.the-variants as refusal
 use Rattle.text.specs.Cuts.{Placed, fields-in}
-use Rattle.text.specs.Rules.{Rule, first-broken, field, used, period-above, count-rules, pattern-rules, time-rules, table-rules}
+use Rattle.text.specs.Rules.{Rule, first-broken, field, used, period-above, count-rules, head-rules, time-rules, table-rules}
 use Rattle.text.specs.Reading.{unless, row-said, with-fields, with-line}
 use Rattle.text.proofs.Broken.{broken-first, broken-second, none-broken}
 
@@ -55,7 +55,7 @@ above-is ls = (λ i. getD (periods-are ls i) (length-map ls row-of i - 1) 0)
 -- ---- the rules of a line, in parts
 
 abbrev rules-at : ℕ → List Row → Placed → List Placed → List Rule
-rules-at n up l fs = count-rules n l fs ++ (pattern-rules n fs ++ (time-rules n fs ++ table-rules n up fs))
+rules-at n up l fs = count-rules n l fs ++ (head-rules n fs ++ (time-rules n fs ++ table-rules n up fs))
 
 module _ (up : List Row) (l : Placed) (fs : List Placed) (cut : fields-in l ≡ fs) (n : ℕ) (at : n ≡ length up + 1) where
   line-is : (o : Option Refusal) → first-broken (rules-at n up l fs) ≡ o → with-line up l ≡ unless o (Ok (up ++ (row-said fs ∷ [])))
@@ -67,36 +67,36 @@ module _ (up : List Row) (l : Placed) (fs : List Placed) (cut : fields-in l ≡ 
   pub line-33 : 32 < n → with-line up l ≡ Err (refusal.TooManyLines (l .place))
   line-33 h =
       line-is (Some (refusal.TooManyLines (l .place)))
-      (broken-first (count-rules n l fs) (pattern-rules n fs ++ (time-rules n fs ++ table-rules n up fs)) (refusal.TooManyLines (l .place))
+      (broken-first (count-rules n l fs) (head-rules n fs ++ (time-rules n fs ++ table-rules n up fs)) (refusal.TooManyLines (l .place))
       (λ i. cond (lt-leb n 32 h i) (cond (eqb (length fs) 9) None (Some (refusal.FieldCount n (l .place)))) (Some (refusal.TooManyLines (l .place)))))
 
   pub not-nine : n ≤ 32 → eqb (length fs) 9 ≡ false → with-line up l ≡ Err (refusal.FieldCount n (l .place))
   not-nine h f =
       line-is (Some (refusal.FieldCount n (l .place)))
-      (broken-first (count-rules n l fs) (pattern-rules n fs ++ (time-rules n fs ++ table-rules n up fs)) (refusal.FieldCount n (l .place))
+      (broken-first (count-rules n l fs) (head-rules n fs ++ (time-rules n fs ++ table-rules n up fs)) (refusal.FieldCount n (l .place))
       (λ i. cond (le-leb n 32 h i) (cond (f i) None (Some (refusal.FieldCount n (l .place)))) (Some (refusal.TooManyLines (l .place)))))
 
   module _ (few : n ≤ 32) (nine : eqb (length fs) 9 ≡ true) where
     counted : first-broken (count-rules n l fs) ≡ None
     counted = none-broken (count-rules n l fs) (le-leb n 32 few, (nine, tt))
 
-    pub by-fields : (e : Refusal) → first-broken (pattern-rules n fs ++ time-rules n fs) ≡ Some e → with-line up l ≡ Err e
+    pub by-fields : (e : Refusal) → first-broken (head-rules n fs ++ time-rules n fs) ≡ Some e → with-line up l ≡ Err e
     by-fields e h =
         line-is (Some e)
-        (broken-second (count-rules n l fs) (pattern-rules n fs ++ (time-rules n fs ++ table-rules n up fs)) counted
-        ∙ broken-first (pattern-rules n fs ++ time-rules n fs) (table-rules n up fs) e h)
+        (broken-second (count-rules n l fs) (head-rules n fs ++ (time-rules n fs ++ table-rules n up fs)) counted
+        ∙ broken-first (head-rules n fs ++ time-rules n fs) (table-rules n up fs) e h)
 
-    pub by-table : first-broken (pattern-rules n fs ++ time-rules n fs) ≡ None → (a b : Bool) → used (field fs 0 .bytes) up ≡ a → leb (period-above up) (row-said fs .period) ≡ b →
+    pub by-table : first-broken (head-rules n fs ++ time-rules n fs) ≡ None → (a b : Bool) → used (field fs 0 .bytes) up ≡ a → leb (period-above up) (row-said fs .period) ≡ b →
         with-line up l ≡ unless (cond (not a) (cond b None (Some (refusal.PeriodFalls n (field fs 8 .place)))) (Some (refusal.NameUsed n (field fs 0 .place)))) (Ok (up ++ (row-said fs ∷ [])))
     by-table h a b p q =
         line-is (cond (not a) (cond b None (Some (refusal.PeriodFalls n (field fs 8 .place)))) (Some (refusal.NameUsed n (field fs 0 .place))))
-        (broken-second (count-rules n l fs) (pattern-rules n fs ++ (time-rules n fs ++ table-rules n up fs)) counted
-        ∙ broken-second (pattern-rules n fs ++ time-rules n fs) (table-rules n up fs) h
+        (broken-second (count-rules n l fs) (head-rules n fs ++ (time-rules n fs ++ table-rules n up fs)) counted
+        ∙ broken-second (head-rules n fs ++ time-rules n fs) (table-rules n up fs) h
         ∙ (λ i. cond (not (p i)) (cond (q i) None (Some (refusal.PeriodFalls n (field fs 8 .place)))) (Some (refusal.NameUsed n (field fs 0 .place)))))
 
 -- ---- a line that is pushed, or not
 
-module _ (ls : List Line) (l : Placed) (fs : List Placed) (cut : fields-in l ≡ fs) (n : ℕ) (at : n ≡ length ls + 1) (few : n ≤ 32) (nine : eqb (length fs) 9 ≡ true) (none : first-broken (pattern-rules n fs ++ time-rules n fs) ≡ None) (x : Line) (row : row-of x ≡ row-said fs) where
+module _ (ls : List Line) (l : Placed) (fs : List Placed) (cut : fields-in l ≡ fs) (n : ℕ) (at : n ≡ length ls + 1) (few : n ≤ 32) (nine : eqb (length fs) 9 ≡ true) (none : first-broken (head-rules n fs ++ time-rules n fs) ≡ None) (x : Line) (row : row-of x ≡ row-said fs) where
   number : n ≡ length (map row-of ls) + 1
   number = omega (arith, length-map ls row-of)
 

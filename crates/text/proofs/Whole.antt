@@ -17,7 +17,7 @@ use Rattle.tasks.specs.Tables.{lines-of, Used, last-period}
 use Rattle.tasks.specs.declared.line.Line.{Line}
 use Rattle.tasks.specs.declared.table.Table.{Table}
 use Rattle.text.specs.Cuts.{Placed, placed, ended, count, last-byte, lines-in, fields-in}
-use Rattle.text.specs.Rules.{first-broken, pattern-rules, time-rules}
+use Rattle.text.specs.Rules.{first-broken, head-rules, time-rules}
 use Rattle.text.specs.Reading.{and-then, row-said, with-line, with-lines, reading}
 use Rattle.text.specs.Forms.{is-technique}
 use Rattle.text.specs.Values.{technique-of, number-of}
@@ -77,7 +77,7 @@ module _ (l : Line) (bs : List ℕ) (s : Line-of bs (row-of l)) where
   fields : (q : ℕ) → fields-in (placed q bs) ≡ parts-of q (name-bytes (l .name)) (others l (s .word))
   fields q = ap (λ x. fields-in (placed q x)) (s .is) ∙ parted-commas q (name-bytes (l .name)) (others l (s .word)) lacking
 
-  kept : (n q : ℕ) → first-broken (pattern-rules n (parts-of q (name-bytes (l .name)) (others l (s .word))) ++ time-rules n (parts-of q (name-bytes (l .name)) (others l (s .word)))) ≡ None
+  kept : (n q : ℕ) → first-broken (head-rules n (parts-of q (name-bytes (l .name)) (others l (s .word))) ++ time-rules n (parts-of q (name-bytes (l .name)) (others l (s .word)))) ≡ None
   kept n q =
       let mk : number-of (decimal (l .m)) ≤ number-of (decimal (l .k)) = omega (arith, m .value, k .value, l .window) in
       let k64 : number-of (decimal (l .k)) ≤ 64 = omega (arith, k .value, l .window) in
@@ -85,7 +85,7 @@ module _ (l : Line) (bs : List ℕ) (s : Line-of bs (row-of l)) where
       let dr : number-of (decimal (l .times .detect)) < number-of (decimal (l .times .correct)) = omega (arith, d .value, r .value, l .ordered) in
       let rp : number-of (decimal (l .times .correct)) ≤ number-of (decimal (l .period)) = omega (arith, r .value, p .value, l .ordered) in
       let pm : number-of (decimal (l .period)) ≤ 1000000 = omega (arith, p .value, l .ordered) in
-      none-broken (pattern-rules n (parts-of q (name-bytes (l .name)) (others l (s .word))) ++ time-rules n (parts-of q (name-bytes (l .name)) (others l (s .word)))) (
+      none-broken (head-rules n (parts-of q (name-bytes (l .name)) (others l (s .word))) ++ time-rules n (parts-of q (name-bytes (l .name)) (others l (s .word)))) (
         s .name-is,
         (
           technique .0,

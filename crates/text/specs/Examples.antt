@@ -1,6 +1,6 @@
 -- Worked examples of readings, computed.
 use mathlib.Core.Path.{_≡_, refl}
-use mathlib.Core.List.{List, [], _∷_, _++_}
+use mathlib.Core.List.{List, [], _∷_, _++_, map}
 use Prim.Native.Nat.{ℕ, zero, suc}
 use lib.Chars.{codes}
 use lib.ListN.{replicate}
@@ -8,11 +8,18 @@ use Rattle.std.specs.declared.result.Result.{Result}
 use Rattle.std.specs.declared.result.Result.the-variants.{Ok, Err}
 use Rattle.words.specs.Sums.{sum-below}
 use Rattle.words.specs.Bits.{word-of}
-use Rattle.tasks.specs.Refused.{told}
+use Rattle.tasks.specs.Refused.{told, told-number}
 use Rattle.tasks.specs.Rows.{Row}
 use Rattle.tasks.specs.declared.refusal.Refusal.{Refusal}
 use Rattle.tasks.specs.declared.technique.Technique.the-variants.{Fr, Sre, Ddr}
+use Rattle.text.specs.Cuts.{Placed}
+use Rattle.text.specs.Rules.{Rule, line-rules}
 use Rattle.text.specs.Reading.{reading}
+
+-- the numbers that the rules of a line are refused with, in order
+in-order : (above : List Row) (l : Placed) (fs : List Placed) →
+    map (λ (r : Rule). told-number (r .otherwise)) (line-rules above l fs) ≡ 7 ∷ 2 ∷ 3 ∷ 3 ∷ 3 ∷ 3 ∷ 4 ∷ 4 ∷ 3 ∷ 4 ∷ 3 ∷ 3 ∷ 4 ∷ 3 ∷ 4 ∷ 3 ∷ 4 ∷ 4 ∷ 6 ∷ 5 ∷ []
+in-order above l fs = refl
 
 -- number, line and place of the refusal, and zeros where there is none
 abbrev refused : Result (List Row) Refusal → ℕ × ℕ × ℕ

@@ -42,7 +42,7 @@ line-text r word =
     (technique-word (r .technique) ∷ decimal (r .m) ∷ decimal (r .k) ∷ word
     ∷ decimal (r .bare) ∷ decimal (r .detect) ∷ decimal (r .correct) ∷ decimal (r .period) ∷ [])
 
--- the bytes are a row written out
+-- the bytes are a row written out, whose name has the form of a name
 pub record Line-of (bytes : List ℕ) (r : Row) : Type 0 where
   pub word : List ℕ
   pub name-is : is-name (r .name) ≡ true

@@ -97,9 +97,9 @@ count-rules n l fs =
     ∷ rule (eqb (length fs) 9) (refusal.FieldCount n (l .place))
     ∷ []
 
--- then the fields from the left, in each 3 before 4: 1 ≤ m ≤ k ≤ 64, and the pattern
-abbrev pub pattern-rules : ℕ → List Placed → List Rule
-pattern-rules n fs =
+-- then the fields from the left, in each 3 before 4: name, technique, 1 ≤ m ≤ k ≤ 64, pattern
+abbrev pub head-rules : ℕ → List Placed → List Rule
+head-rules n fs =
     form n Name (the-name fs)
     ∷ form n Technique (the-technique fs)
     ∷ form n Number (the-m fs)
@@ -110,7 +110,7 @@ pattern-rules n fs =
     ∷ value n (fits (num (the-m fs)) (num (the-k fs)) (the-pattern fs .bytes)) (the-pattern fs)
     ∷ []
 
--- 1 ≤ u < d < r ≤ T ≤ 1,000,000
+-- the times and the period, 1 ≤ u < d < r ≤ T ≤ 1,000,000; that m and u are at least 1 is part of their form
 abbrev pub time-rules : ℕ → List Placed → List Rule
 time-rules n fs =
     form n Number (the-bare fs)
@@ -134,6 +134,6 @@ table-rules n above fs =
 abbrev pub line-rules : List Row → Placed → List Placed → List Rule
 line-rules above l fs =
     count-rules (length above + 1) l fs
-    ++ (pattern-rules (length above + 1) fs
+    ++ (head-rules (length above + 1) fs
     ++ (time-rules (length above + 1) fs
     ++ table-rules (length above + 1) above fs))

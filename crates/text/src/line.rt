@@ -8,7 +8,7 @@ ghost use mathlib.Core.List.{_++_};
 ghost use Rattle.tasks.specs.Rows.{row-of};
 ghost use Rattle.tasks.specs.declared.refusal.Refusal.the-variants as refusal;
 ghost use Rattle.text.specs.Cuts.{fields-in};
-ghost use Rattle.text.specs.Rules.{pattern-rules, time-rules};
+ghost use Rattle.text.specs.Rules.{head-rules, time-rules};
 ghost use Rattle.text.specs.Reading.{row-said};
 ghost use Rattle.text.specs.Layers.{part-of, Within, Held, Says, Cut, nine, Head-says, Times-say};
 use crate::field::lead_to;
@@ -125,7 +125,7 @@ fn rule<'a>(kept: bool, field: Part<'a>, line: u32) -> Result<(), Refusal>
 
 // The first five fields, each held to its form and rules from the left.
 fn read_head<'a>(f: Fields<'a>, line: u32) -> Result<Head, Refusal>
-    ensures { λ r. ⌜ Says r (pattern-rules line (nine (f .entry))) (Head-says (f .entry)) ⌝ }
+    ensures { λ r. ⌜ Says r (head-rules line (nine (f .entry))) (Head-says (f .entry)) ⌝ }
 {
     let name = name_field(f.name, line)?;
     let technique = technique_field(f.technique, line)?;
@@ -168,7 +168,7 @@ fn read_times<'a>(f: Fields<'a>, line: u32) -> Result<(Times, u32), Refusal>
 
 // The line that the fields say.
 pub(crate) fn line<'a>(f: Fields<'a>, line: u32) -> Result<Line, Refusal>
-    ensures { λ r. ⌜ Says r (pattern-rules line (nine (f .entry)) ++ time-rules line (nine (f .entry))) (λ l. row-of l ≡ row-said (nine (f .entry))) ⌝ }
+    ensures { λ r. ⌜ Says r (head-rules line (nine (f .entry)) ++ time-rules line (nine (f .entry))) (λ l. row-of l ≡ row-said (nine (f .entry))) ⌝ }
 {
     let h = read_head(f, line)?;
     let (times, period) = read_times(f, line)?;

@@ -78,7 +78,7 @@ fn ends_in_feed(text: &[u8]) -> bool
     matches!(text, [.., b'\n'])
 }
 
-// At most so many bytes, the last a line feed.
+// At most LONGEST bytes, the last a line feed.
 fn is_text(text: &[u8]) -> bool
     ensures { λ r. ⌜ r ≡ (leb (length (now (text .entry))) 8192 && eqb (last-byte (now (text .entry))) 10) ⌝ }
 {

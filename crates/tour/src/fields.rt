@@ -6,7 +6,7 @@ use text::line::split_fields;
 use text::token::Part;
 
 // Writes bytes as they are.
-pub fn write(rt: &LibcRuntime, bytes: &[u8]) -> Result<(), AnyError> {
+pub(crate) fn write(rt: &LibcRuntime, bytes: &[u8]) -> Result<(), AnyError> {
     rt.stdout().write_all(bytes)?;
     Ok(())
 }
@@ -45,7 +45,7 @@ fn show_line(rt: &LibcRuntime, number: u32, part: Part<'_>) -> Result<(), AnyErr
     }
 }
 
-pub fn stage(rt: &LibcRuntime, text: &[u8]) -> Result<(), AnyError> {
+pub(crate) fn stage(rt: &LibcRuntime, text: &[u8]) -> Result<(), AnyError> {
     let count = text.len();
     println!(rt, "")?;
     println!(

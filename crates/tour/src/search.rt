@@ -63,7 +63,7 @@ fn show_verdict(rt: &LibcRuntime, table: &Table) -> Result<(), AnyError> {
     Ok(())
 }
 
-pub fn stage(rt: &LibcRuntime, table: &Table) -> Result<(), AnyError> {
+pub(crate) fn stage(rt: &LibcRuntime, table: &Table) -> Result<(), AnyError> {
     println!(rt, "")?;
     println!(
         rt,

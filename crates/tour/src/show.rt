@@ -40,7 +40,7 @@ fn show_line(rt: &LibcRuntime, line: &Line) -> Result<(), AnyError> {
     Ok(())
 }
 
-pub fn stage(rt: &LibcRuntime, table: &Table) -> Result<(), AnyError> {
+pub(crate) fn stage(rt: &LibcRuntime, table: &Table) -> Result<(), AnyError> {
     println!(rt, "")?;
     println!(
         rt,
