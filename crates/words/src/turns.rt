@@ -55,3 +55,25 @@ pub fn rearranged(word: u64, k: u32) -> Option<u64>
 {
     turned(word, k, turn(word, k))
 }
+
+#[cfg(test)]
+mod tests {
+    use crate::patterns::Pattern;
+    use crate::turns::rearranged;
+    use crate::turns::turn;
+    use std::test::*;
+
+    // Words are written with bit 0 last here: R(3,10) is 0000000111, bit 0 first.
+    #[test]
+    fn worked_examples() -> Result<(), Fail> {
+        check_eq(Pattern::R.word(3, 10), Some(0b11_1000_0000))?;
+        check_eq(Pattern::E.word(3, 10), Some(0b10_0100_1000))?;
+        check_eq(Pattern::E.word(5, 10), Some(0b10_1010_1010))?;
+        check_eq(Pattern::E.word(7, 10), Some(0b11_1011_0110))?;
+        check_eq(Pattern::R.word(1, 1), Some(1))?;
+        check_eq(Pattern::E.word(1, 1), Some(1))?;
+        check_eq(Pattern::R.word(1, 65), None)?;
+        check_eq(turn(0b1_0011, 5), 2)?;
+        check_eq(rearranged(0b1_0011, 5), Some(0b1_1100))
+    }
+}
