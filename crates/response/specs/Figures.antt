@@ -1,4 +1,4 @@
--- Response figures: the smallest time by which a line's job is surely done, whatever the lines above ask for.
+-- Response figures: the smallest time by which a job of a line and all that the lines above may ask for fit.
 use Prim.Native.Nat.{ℕ, _+_, _-_, _≤_, _<_}
 use mathlib.Core.Path.{_≡_}
 use mathlib.Core.List.{List}
@@ -28,7 +28,7 @@ module _ (demand : Line → ℕ → ℕ) where
   abbrev pub load-above : List Line → ℕ → ℕ
   load-above above t = sumBy (λ h. demand h (jobs-by h t)) above
 
-  -- one job of the line is done by t, whatever the lines above ask for
+  -- one job of the line, and what the lines above ask for up to t, fit into t
   abbrev pub Passes : List Line → Line → ℕ → Type 0
   Passes above l t = demand l 1 + load-above above t ≤ t
 

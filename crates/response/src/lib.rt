@@ -1,4 +1,4 @@
-// Response figures: the smallest times by which the jobs of a table's lines are surely done.
+// Response figures: the smallest times by which a job of a line and all that the lines above may ask for fit.
 mod asks;
 pub mod figures;
 mod kept;

@@ -54,7 +54,7 @@ fn show_verdict(rt: &LibcRuntime, table: &Table) -> Result<(), AnyError> {
         Ok(admitted) => {
             for (line, figure) in table.lines().iter().zip(places.iter()) {
                 write(rt, line.name.bytes())?;
-                println!(rt, " is done within {figure} ticks of its release")?;
+                println!(rt, " has the figure {figure}")?;
             }
             rt.println(if admitted { "admitted" } else { "rejected" })?;
         }
