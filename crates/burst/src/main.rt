@@ -1,4 +1,6 @@
 // The engine runs a small table through a burst of faults; prints each call beside its answer.
+#![tactic(auto)]
+
 use engine::engine::Engine;
 use policies::by_line::ByLine;
 use service::apply::{apply, start};

@@ -1,4 +1,6 @@
 // Policies: what is planned for a line's jobs, what that promises, and the six that ship.
+#![tactic(auto)]
+
 pub mod by_line;
 pub mod pattern;
 pub mod policy;

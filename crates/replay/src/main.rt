@@ -1,4 +1,6 @@
 // Replays a script: reads a table text, a line `.` and a call to a line, and prints the answers.
+#![tactic(auto)]
+
 use engine::engine::Engine;
 use policies::by_line::ByLine;
 use service::log::{Call, Entry};

@@ -1,2 +1,4 @@
 // The bytes that answer a table text: its figures and verdict, or its refusal.
+#![tactic(auto)]
+
 pub mod report;

@@ -1,4 +1,6 @@
 // Answers many table texts, parted by lines `%%`, with their reports, parted the same way.
+#![tactic(auto)]
+
 use report::report::report;
 use std::io::{Read, Write};
 

@@ -1,4 +1,6 @@
 // Follows a task table from its bytes to its verdict, and prints what each stage does.
+#![tactic(auto)]
+
 mod demands;
 mod fields;
 mod search;

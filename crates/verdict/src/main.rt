@@ -1,4 +1,6 @@
 // Answers a table text: reads it from standard input and prints its report.
+#![tactic(auto)]
+
 use report::report::report;
 use std::io::{Read, Write};
 use text::read::LONGEST;
