@@ -8,16 +8,16 @@ use Rattle.words.proofs.patterns.pattern_word.Goals as goal
 pub loop-place-init : goal.loop-place-init
 loop-place-init c = sym (word_none (pattern_bit c.args.pattern c.args.m c.args.k))
 
-pub with-bit-word-requires : goal.with-bit-word-requires
-with-bit-word-requires c =
+pub with_bit-word-requires : goal.with_bit-word-requires
+with_bit-word-requires c =
     let f = pattern_bit c.args.pattern c.args.m c.args.k in
     let small = pattern_small c.args.pattern c.args.m c.args.k in
-    (omega (arith, c.requires), omega (arith, c.loop-place.invariant, word_narrow f small c.loop-place.place), omega (arith, c.pattern-bit.ensures, small c.loop-place.place))
+    (omega (arith, c.requires), omega (arith, c.loop-place.invariant, word_narrow f small c.loop-place.place), omega (arith, c.pattern_bit.ensures, small c.loop-place.place))
 
 pub loop-place-preserved : goal.loop-place-preserved
 loop-place-preserved c =
     let f = pattern_bit c.args.pattern c.args.m c.args.k in
-    word_step f (pattern_small c.args.pattern c.args.m c.args.k) _ _ _ _ c.loop-place.invariant c.pattern-bit.ensures c.with-bit-word.ensures
+    word_step f (pattern_small c.args.pattern c.args.m c.args.k) _ _ _ _ c.loop-place.invariant c.pattern_bit.ensures c.with_bit-word.ensures
 
 pub returns : goal.returns
 returns c =

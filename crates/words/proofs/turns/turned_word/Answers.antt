@@ -8,16 +8,16 @@ use Rattle.words.proofs.turns.turned_word.Goals as goal
 pub loop-place-init : goal.loop-place-init
 loop-place-init c = sym (word_none (turned_bit c.args.word c.args.k c.args.by))
 
-pub with-bit-result-requires : goal.with-bit-result-requires
-with-bit-result-requires c =
+pub with_bit-result-requires : goal.with_bit-result-requires
+with_bit-result-requires c =
     let f = turned_bit c.args.word c.args.k c.args.by in
     let small = turned_small c.args.word c.args.k c.args.by in
-    (omega (arith, c.requires), omega (arith, c.loop-place.invariant, word_narrow f small c.loop-place.place), omega (arith, c.bit-at.ensures))
+    (omega (arith, c.requires), omega (arith, c.loop-place.invariant, word_narrow f small c.loop-place.place), omega (arith, c.bit_at.ensures))
 
 pub loop-place-preserved : goal.loop-place-preserved
 loop-place-preserved c =
     let f = turned_bit c.args.word c.args.k c.args.by in
-    word_step f (turned_small c.args.word c.args.k c.args.by) _ _ _ _ c.loop-place.invariant c.bit-at.ensures c.with-bit-result.ensures
+    word_step f (turned_small c.args.word c.args.k c.args.by) _ _ _ _ c.loop-place.invariant c.bit_at.ensures c.with_bit-result.ensures
 
 pub returns : goal.returns
 returns c =
