@@ -2,6 +2,6 @@ use Rattle.std.proofs.Common.{refl, arith}
 use Rattle.words.specs.Sums.{sum_below}
 use Rattle.tasks.proofs.tables.filler.Goals as goal
 
-pub invariant-of-result : goal.invariant-of-result
+pub invariant_of-result : goal.invariant_of-result
 unfolding sum_below
-invariant-of-result c = ((omega arith, omega arith, omega arith), (omega arith, (refl, ((omega arith, omega arith, omega arith, omega arith, omega arith), tt))))
+invariant_of-result c = record { window = (omega arith, omega arith, omega arith); narrow = omega arith; reliable = refl; ordered = (omega arith, omega arith, omega arith, omega arith, omega arith) }

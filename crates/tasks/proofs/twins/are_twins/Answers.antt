@@ -29,7 +29,7 @@ returns c =
         of = c.if-a-b-2.false;
         times = times_agree a b u d r;
         period = c.if-a-b-3.false;
-        word = word_turned a b c.if-a-b.false c.if-a-b-2.false (c.is-turned.ensures.0 e);
+        word = word_turned a b c.if-a-b.false c.if-a-b-2.false (c.is_turned.ensures.0 e);
       }),
-      (λ t. c.is-turned.ensures.1 (t.word.0, t.word.1.bits)),
+      (λ t. c.is_turned.ensures.1 (t.word.0, t.word.1.bits)),
     )

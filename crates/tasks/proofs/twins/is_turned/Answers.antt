@@ -11,7 +11,7 @@ loop-by-preserved c =
     (λ s. ((j : ℕ) → j < c.args.k → bit c.args.b j ≡ turned_bit c.args.a c.args.k s j) → ⊥)
     c.loop-by.by
     c.loop-by.invariant
-    (λ h. false≢true (c.if-is-turned-by.ensures.1 h))
+    (λ h. false≢true (c.if-is_turned_by.ensures.1 h))
 
 pub returns : goal.returns
 returns c =

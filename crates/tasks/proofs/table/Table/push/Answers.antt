@@ -10,18 +10,22 @@ returns-then-lines-ge32 c = (refl, omega (arith, ap length c.lines.ensures.is, c
 pub returns-then-uses : goal.returns-then-uses
 returns-then-uses c = (refl, omega (arith, ap length c.lines.ensures.is), c.if-uses.ensures.0 refl)
 
-pub returns-then-line-last-period : goal.returns-then-line-last-period
-returns-then-line-last-period c =
-    (refl, omega (arith, ap length c.lines.ensures.is), not_from_Decides _ c.uses.ensures c.if-uses.false, omega (arith, c.last-period.ensures))
+pub returns-then-line-last_period : goal.returns-then-line-last_period
+returns-then-line-last_period c =
+    (refl, omega (arith, ap length c.lines.ensures.is), not_from_Decides _ c.uses.ensures c.if-uses.false, omega (arith, c.last_period.ensures))
 
-pub invariant-of-self : goal.invariant-of-self
-invariant-of-self c =
+pub invariant_of-self : goal.invariant_of-self
+invariant_of-self c =
     let t = c.args.self.now in
     let room : t.len < length t.lines = search rules in
-    (omega arith, (rising_more t.lines t.len c.args.line room t.rising (omega (arith, c.last-period.ensures)), (apart_more t.lines t.len c.args.line room t.apart (not_from_Decides _ c.uses.ensures c.if-uses.false), tt)))
+    record {
+      few = omega arith;
+      rising = rising_more t.lines t.len c.args.line room t.rising (omega (arith, c.last_period.ensures));
+      apart = apart_more t.lines t.len c.args.line room t.apart (not_from_Decides _ c.uses.ensures c.if-uses.false);
+    }
 
 pub returns : goal.returns
 returns c =
     let t = c.args.self.now in
     let room : t.len < length t.lines = search rules in
-    (omega (arith, ap length c.lines.ensures.is), not_from_Decides _ c.uses.ensures c.if-uses.false, omega (arith, c.last-period.ensures), take_more_set t.lines t.len c.args.line room)
+    (omega (arith, ap length c.lines.ensures.is), not_from_Decides _ c.uses.ensures c.if-uses.false, omega (arith, c.last_period.ensures), take_more_set t.lines t.len c.args.line room)
