@@ -13,25 +13,25 @@ loop-start-init c =
     let k = c.args.k in
     let n = c.args.n in
     let within : n ≤ k = omega arith in
-    (c.cost-of-first-sum.ensures ∙ sym (row_front f k n within), sym (best_none f k n))
+    (c.cost_of_first-sum.ensures ∙ sym (row_front f k n within), sym (best_none f k n))
 
-pub overflow-add-sum : goal.overflow-add-sum
-overflow-add-sum c =
+pub overflow_add-sum : goal.overflow_add-sum
+overflow_add-sum c =
     let k = c.args.k in
     let f = cost_at c.args.zero_cost c.args.one_cost c.args.word in
-    omega (arith, row_bound f k most_per_job (λ x. cost_small c.args.zero_cost c.args.one_cost c.args.word x (omega (arith, c.requires)) (omega (arith, c.requires))) c.loop-start.start c.args.n, c.loop-start.invariant, c.cost-at-entering.ensures.small, c.requires)
+    omega (arith, row_bound f k most_per_job (λ x. cost_small c.args.zero_cost c.args.one_cost c.args.word x (omega (arith, c.requires)) (omega (arith, c.requires))) c.loop-start.start c.args.n, c.loop-start.invariant, c.cost_at-entering.ensures.small, c.requires)
 
-pub overflow-sub-sum : goal.overflow-sub-sum
-overflow-sub-sum c =
+pub overflow_sub-sum : goal.overflow_sub-sum
+overflow_sub-sum c =
     let k = c.args.k in
     let f = cost_at c.args.zero_cost c.args.one_cost c.args.word in
-    omega (arith, row_slides f k c.loop-start.start c.args.n (omega (arith, c.loop-start-test.true)), c.loop-start.invariant, c.cost-at-entering.ensures.is, c.cost-at.ensures.is)
+    omega (arith, row_slides f k c.loop-start.start c.args.n (omega (arith, c.loop-start-test.true)), c.loop-start.invariant, c.cost_at-entering.ensures.is, c.cost_at.ensures.is)
 
 pub loop-start-preserved : goal.loop-start-preserved
 loop-start-preserved c =
     let k = c.args.k in
     let f = cost_at c.args.zero_cost c.args.one_cost c.args.word in (
-      omega (arith, row_slides f k c.loop-start.start c.args.n (omega (arith, c.loop-start-test.true)), c.loop-start.invariant, c.cost-at-entering.ensures.is, c.cost-at.ensures.is),
+      omega (arith, row_slides f k c.loop-start.start c.args.n (omega (arith, c.loop-start-test.true)), c.loop-start.invariant, c.cost_at-entering.ensures.is, c.cost_at.ensures.is),
       elim c.if-greatest-sum.branch [
         | then-greatest-sum w ↦ omega (arith, best_more f k c.args.n c.loop-start.start, w.greatest-is, w.if-greatest-sum.true, c.loop-start.invariant)
         | else-greatest-sum w ↦ omega (arith, best_more f k c.args.n c.loop-start.start, w.greatest-is, w.if-greatest-sum.false, c.loop-start.invariant)

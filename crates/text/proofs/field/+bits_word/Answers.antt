@@ -3,8 +3,8 @@ use Rattle.text.specs.Forms.{binary}
 use Rattle.text.proofs.Steps.{bits_first, every_rest, bits_none, bits_below}
 use Rattle.text.proofs.field.+bits_word.Goals as goal
 
-pub bits-word-requires : goal.bits-word-requires
-bits-word-requires t c =
+pub bits_word-requires : goal.bits_word-requires
+bits_word-requires t c =
     let h : 0 < length c.args.bytes.now = search rules in
     (search rules, (every_rest binary c.args.bytes.now h c.requires.0, search rules))
 
@@ -17,5 +17,5 @@ returns-in-empty t c =
 pub returns-in-len1-up : goal.returns-in-len1-up
 returns-in-len1-up t c =
     let h : 0 < length c.args.bytes.now = search rules in
-    let e = ap (λ x. (get_or c.args.bytes.now 0 0 - 48) + 2 * x) c.bits-word.ensures.0 ∙ sym (bits_first c.args.bytes.now h) in
+    let e = ap (λ x. (get_or c.args.bytes.now 0 0 - 48) + 2 * x) c.bits_word.ensures.0 ∙ sym (bits_first c.args.bytes.now h) in
     (e, omega (arith, e, bits_below c.args.bytes.now c.requires.0))

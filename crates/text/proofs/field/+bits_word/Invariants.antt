@@ -1,5 +1,5 @@
 use Rattle.std.proofs.Common.{length}
 use Rattle.text.proofs.field.+bits_word.Given as goal
 
-abbrev pub decreases-bits-word : goal.decreases-bits-word
-decreases-bits-word l = length l.bytes.now
+abbrev pub decreases-bits_word : goal.decreases-bits_word
+decreases-bits_word l = length l.bytes.now

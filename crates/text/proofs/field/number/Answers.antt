@@ -2,14 +2,14 @@ use Rattle.std.proofs.Common.{arith}
 use Rattle.text.proofs.Steps.{number_next, number_fits, number_digit, number_short, number_some, number_end}
 use Rattle.text.proofs.field.number.Goals as goal
 
-pub overflow-mul-value : goal.overflow-mul-value
-overflow-mul-value c = omega (arith, number_fits c.loop-digit.value c.args.digits.now c.loop-digit.digit-index c.requires (omega arith) c.loop-digit.invariant)
+pub overflow_mul-value : goal.overflow_mul-value
+overflow_mul-value c = omega (arith, number_fits c.loop-digit.value c.args.digits.now c.loop-digit.digit-index c.requires (omega arith) c.loop-digit.invariant)
 
-pub overflow-sub-value : goal.overflow-sub-value
-overflow-sub-value c = number_digit c.loop-digit.value c.args.digits.now c.loop-digit.digit-index c.requires (omega arith) c.loop-digit.invariant
+pub overflow_sub-value : goal.overflow_sub-value
+overflow_sub-value c = number_digit c.loop-digit.value c.args.digits.now c.loop-digit.digit-index c.requires (omega arith) c.loop-digit.invariant
 
-pub overflow-add-value : goal.overflow-add-value
-overflow-add-value c = omega (arith, number_fits c.loop-digit.value c.args.digits.now c.loop-digit.digit-index c.requires (omega arith) c.loop-digit.invariant)
+pub overflow_add-value : goal.overflow_add-value
+overflow_add-value c = omega (arith, number_fits c.loop-digit.value c.args.digits.now c.loop-digit.digit-index c.requires (omega arith) c.loop-digit.invariant)
 
 pub loop-digit-preserved : goal.loop-digit-preserved
 loop-digit-preserved c = number_next c.loop-digit.value c.args.digits.now c.loop-digit.digit-index c.requires (omega arith) c.loop-digit.invariant

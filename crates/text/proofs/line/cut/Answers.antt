@@ -4,12 +4,12 @@ use Rattle.text.proofs.line.cut.Goals as goal
 
 pub returns-in-empty : goal.returns-in-empty
 returns-in-empty c =
-    let none : length c.split-at.result.1.now ≡ 0 = search rules in
-    λ h. cut_unmarked c.args.mark c.args.text.place c.lead-to-count.result c.saturating-add-place.result c.args.text.bytes.now c.split-at.result.0.now c.split-at.result.1.now c.lead-to-count.ensures.0 c.split-at.ensures.front c.split-at.ensures.back
-    none (omega (arith, c.saturating-add-place.ensures, c.lead-to-count.ensures.1)) c.lead-to-count.ensures.1
+    let none : length c.split_at.result.1.now ≡ 0 = search rules in
+    λ h. cut_unmarked c.args.mark c.args.text.place c.lead_to-count.result c.saturating_add-place.result c.args.text.bytes.now c.split_at.result.0.now c.split_at.result.1.now c.lead_to-count.ensures.0 c.split_at.ensures.front c.split_at.ensures.back
+    none (omega (arith, c.saturating_add-place.ensures, c.lead_to-count.ensures.1)) c.lead_to-count.ensures.1
 
 pub returns-in-len1-up : goal.returns-in-len1-up
 returns-in-len1-up c =
-    let some : 1 ≤ length c.split-at.result.1.now = search rules in
-    λ h. cut_marked c.args.mark c.args.text.place c.lead-to-count.result c.saturating-add.result c.args.text.bytes.now c.split-at.result.0.now c.split-at.result.1.now c.lead-to-count.ensures.0 c.split-at.ensures.front c.split-at.ensures.back
-    some (omega (arith, c.saturating-add-place.ensures, c.saturating-add.ensures, c.split-at.ensures.back_len))
+    let some : 1 ≤ length c.split_at.result.1.now = search rules in
+    λ h. cut_marked c.args.mark c.args.text.place c.lead_to-count.result c.saturating_add.result c.args.text.bytes.now c.split_at.result.0.now c.split_at.result.1.now c.lead_to-count.ensures.0 c.split_at.ensures.front c.split_at.ensures.back
+    some (omega (arith, c.saturating_add-place.ensures, c.saturating_add.ensures, c.split_at.ensures.back_len))

@@ -5,14 +5,14 @@ use Rattle.text.specs.Layers.{nine}
 use Rattle.text.proofs.Broken.{broken_first, broken_second}
 use Rattle.text.proofs.line.line.Goals as goal
 
-pub returns-in-err-h : goal.returns-in-err-h
-returns-in-err-h c =
-    let p = err_from_is_err_and c.from-residual.result c.from-residual.ensures.1 in
+pub returns-in_err-h : goal.returns-in_err-h
+returns-in_err-h c =
+    let p = err_from_is_err_and c.from_residual.result c.from_residual.ensures.1 in
     let fs = nine c.args.f in
-    rw (p.1, p.2) (broken_first (head_rules c.args.line fs) (time_rules c.args.line fs) _ c.in-err-h.ensures)
+    rw (p.1, p.2) (broken_first (head_rules c.args.line fs) (time_rules c.args.line fs) _ c.in_err-h.ensures)
 
-pub returns-in-err-times : goal.returns-in-err-times
-returns-in-err-times c =
-    let p = err_from_is_err_and c.from-residual-in-err-times.result c.from-residual-in-err-times.ensures.1 in
+pub returns-in_err-times : goal.returns-in_err-times
+returns-in_err-times c =
+    let p = err_from_is_err_and c.from_residual-in_err-times.result c.from_residual-in_err-times.ensures.1 in
     let fs = nine c.args.f in
-    rw (p.1, p.2) (broken_second (head_rules c.args.line fs) (time_rules c.args.line fs) c.in-ok-h.ensures.0 ∙ c.in-err-times.ensures)
+    rw (p.1, p.2) (broken_second (head_rules c.args.line fs) (time_rules c.args.line fs) c.in_ok-h.ensures.0 ∙ c.in_err-times.ensures)

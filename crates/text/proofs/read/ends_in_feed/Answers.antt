@@ -8,12 +8,12 @@ returns-in-10 c =
     let e : get_or c.args.text.now (length c.args.text.now - 1) 0 ≡ 10 = search rules in
     sym (eq-eqb _ 10 (last_is c.args.text.now ∙ e))
 
-pub returns-in-default : goal.returns-in-default
-returns-in-default c =
+pub returns-in_default : goal.returns-in_default
+returns-in_default c =
     let z : length c.args.text.now ≡ 0 = search rules in
     sym (ne_eqb _ 10 (λ e. omega (arith, e, last_none c.args.text.now z)))
 
-pub returns-in-default·2 : goal.returns-in-default·2
-returns-in-default·2 c =
+pub returns-in_default-2 : goal.returns-in_default-2
+returns-in_default-2 c =
     let n : get_or c.args.text.now (length c.args.text.now - 1) 0 ≡ 10 → ⊥ = search rules in
     sym (ne_eqb _ 10 (λ e. n (sym (last_is c.args.text.now) ∙ e)))

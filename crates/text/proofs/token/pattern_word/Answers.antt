@@ -11,5 +11,5 @@ returns-then-marks-m c =
     let bs = c.in-Bits.bits.bytes.now in
     let ev : every binary bs ≡ true = search rules in
     let o = ones_bits bs ev in
-    let e : ones c.args.k c.bits-word.result ≡ ones (length bs) (bits_of bs) = (λ i. ones (sym c.if-bits-k.true i) (c.bits-word.ensures.0 i)) in
-    (search rules, (search rules, e ∙ o ∙ sym c.marks.ensures ∙ c.if-marks-m.true, subst (λ (n : ℕ). c.bits-word.result < 2 ^ n) c.if-bits-k.true c.bits-word.ensures.1))
+    let e : ones c.args.k c.bits_word.result ≡ ones (length bs) (bits_of bs) = (λ i. ones (sym c.if-bits-k.true i) (c.bits_word.ensures.0 i)) in
+    (search rules, (search rules, e ∙ o ∙ sym c.marks.ensures ∙ c.if-marks-m.true, subst (λ (n : ℕ). c.bits_word.result < 2 ^ n) c.if-bits-k.true c.bits_word.ensures.1))

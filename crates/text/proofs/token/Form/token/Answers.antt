@@ -7,6 +7,6 @@ none_since : {X : Type 0} (o : Option X) (P : Type 0) (Q : X → Type 0) → Mat
 none_since None P Q h e = h
 none_since (Some x) P Q h e = absurd (false≢true e)
 
-pub returns-else-is-some-2 : goal.returns-else-is-some-2
-returns-else-is-some-2 c =
-    rw c.in-Technique.is (unnamed c.args.part.bytes.now (none_since c.named.result _ _ c.named.ensures c.if-is-some-2.ensures))
+pub returns-else-is_some-2 : goal.returns-else-is_some-2
+returns-else-is_some-2 c =
+    rw c.in-Technique.is (unnamed c.args.part.bytes.now (none_since c.named.result _ _ c.named.ensures c.if-is_some-2.ensures))
