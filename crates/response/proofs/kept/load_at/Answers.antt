@@ -12,8 +12,8 @@ pub loop-i-init : goal.loop-i-init
 loop-i-init g c = (omega arith, omega (arith, c.requires.small), c.told-known, c.requires.told)
 
 -- the line at i is taken, and what is kept of it was told
-pub kept-at-fresh-requires : goal.kept-at-fresh-requires
-kept-at-fresh-requires g c =
+pub kept_at-fresh-requires : goal.kept_at-fresh-requires
+kept_at-fresh-requires g c =
     let p = c.args.policy.now in
     let h = c.index-above-i.result in
     let known = get_or c.loop-i.known c.loop-i.i unasked in
@@ -33,11 +33,11 @@ loop-i-preserved g c =
     let share = λ (x : Line). demand x (jobs_by x t) in
     let taken = subst (λ (x : Line). g.P.Policy.takes p x ≡ true) (sym c.index-above-i.is) (c.requires.taken i h c.loop-i-test.true) in
     let more = sum_by_more share c.args.above.now i h c.loop-i-test.true in
-    let is : c.kept-at-fresh.result.demand ≡ share h = subst (λ (n : ℕ). c.kept-at-fresh.result.demand ≡ demand h n) c.kept-at-fresh.ensures.jobs c.kept-at-fresh.ensures.told in (
+    let is : c.kept_at-fresh.result.demand ≡ share h = subst (λ (n : ℕ). c.kept_at-fresh.result.demand ≡ demand h n) c.kept_at-fresh.ensures.jobs c.kept_at-fresh.ensures.told in (
       omega (arith, c.loop-i.invariant.0, more, ap share c.index-above-i.is, is),
       omega (arith, c.loop-i.invariant.1, is, share_small (g.met.P.Policy.capped p) h t taken (omega (arith, c.requires.small))),
-      length-set c.loop-i.known i c.kept-at-fresh.result ∙ c.loop-i.invariant.2,
-      told_more demand c.args.above.now c.loop-i.known i h c.kept-at-fresh.result (omega (arith, c.loop-i.invariant.2, c.requires.small)) c.loop-i-test.true c.index-above-i.is c.kept-at-fresh.ensures.told c.loop-i.invariant.3,
+      length-set c.loop-i.known i c.kept_at-fresh.result ∙ c.loop-i.invariant.2,
+      told_more demand c.args.above.now c.loop-i.known i h c.kept_at-fresh.result (omega (arith, c.loop-i.invariant.2, c.requires.small)) c.loop-i-test.true c.index-above-i.is c.kept_at-fresh.ensures.told c.loop-i.invariant.3,
     )
 
 pub returns : goal.returns
