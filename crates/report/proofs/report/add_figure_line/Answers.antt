@@ -13,7 +13,7 @@ returns c =
     let b = decimal c.args.number in
     let n = name_bytes c.args.name.now in
     let d : List ℕ = decimal c.args.figure ++ (10 ∷ []) in
-    let e : vec_items c.extend-from-slice.new.self ≡ a ++ (b ++ (44 ∷ [])) = search rules in
-    let f : vec_items c.extend-from-slice-2.new.self ≡ vec_items c.extend-from-slice.new.self ++ n = search rules in
-    let g : vec_items c.extend-from-slice-3.new.self ≡ vec_items c.extend-from-slice-2.new.self ++ (44 ∷ d) = search rules in
+    let e : vec_items c.extend_from_slice.new.self ≡ a ++ (b ++ (44 ∷ [])) = search rules in
+    let f : vec_items c.extend_from_slice-2.new.self ≡ vec_items c.extend_from_slice.new.self ++ n = search rules in
+    let g : vec_items c.extend_from_slice-3.new.self ≡ vec_items c.extend_from_slice-2.new.self ++ (44 ∷ d) = search rules in
     joined a b n d _ _ _ e f g

@@ -12,7 +12,7 @@ loop-i-preserved c =
     let l = c.line-item.result in
     let within : i < length ls = omega (arith, ap length same, c.loop-i-test.true) in
     let is : l ≡ get_or ls i l = c.line-item.is ∙ ap (λ (ys : List Line). get_or ys i l) same in
-    figure_more ls c.args.figures.now i l _ _ within is c.in-ok-add-figure-line.ensures ∙ c.loop-i.invariant
+    figure_more ls c.args.figures.now i l _ _ within is c.in_ok-add_figure_line.ensures ∙ c.loop-i.invariant
 
 pub returns : goal.returns
 returns c =

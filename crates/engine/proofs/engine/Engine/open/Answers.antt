@@ -14,21 +14,21 @@ use Rattle.engine.proofs.engine.Engine.open.Goals as goal
 pub returns-then-self : goal.returns-then-self
 returns-then-self g c = record { step = already_open refl (lines_open _ _ c.if-self.true); only = opening_sole _ _ _; policy = refl }
 
-pub returns-in-err-admitted : goal.returns-in-err-admitted
-returns-in-err-admitted g c =
+pub returns-in_err-admitted : goal.returns-in_err-admitted
+returns-in_err-admitted g c =
     let s = c.args.self.now.state in
     let p = c.args.self.now.policy in
     let m : Meaning = meaning g.P.Policy p in
-    let e = err_from_is_err_and c.from-residual.result c.from-residual.ensures.1 in
+    let e = err_from_is_err_and c.from_residual.result c.from_residual.ensures.1 in
     let shut = lines_shut s.setup.opened (lines_of s.setup.table) c.if-self.false in
     let places = c.figures.new.figures in
     let was : Status = status_of s in
-    let step : Opening m was c.args.table.now (Err c.in-err-admitted.field-0.0) (closed was places) = unfit shut c.in-err-admitted.ensures in
+    let step : Opening m was c.args.table.now (Err c.in_err-admitted.field-0.0) (closed was places) = unfit shut c.in_err-admitted.ensures in
     let same = status_eq (closed was places) (record { lines = was.lines; figures = places; ticks = was.ticks; task = was.task }) (sym shut) refl refl refl in
-    record { step = rw (e.1, e.2) (subst (Opening m was c.args.table.now (Err c.in-err-admitted.field-0.0)) same step); only = opening_sole _ _ _; policy = refl }
+    record { step = rw (e.1, e.2) (subst (Opening m was c.args.table.now (Err c.in_err-admitted.field-0.0)) same step); only = opening_sole _ _ _; policy = refl }
 
-pub invariant-of-self-2 : goal.invariant-of-self-2
-invariant-of-self-2 g c = (c.args.self.now.ticked, (each_unused (Fair c.args.self.now.state.ticks) (omega arith) 32, tt))
+pub invariant_of-self-2 : goal.invariant_of-self-2
+invariant_of-self-2 g c = record { ticked = c.args.self.now.ticked; fair = each_unused (Fair c.args.self.now.state.ticks) (omega arith) 32 }
 
 pub returns : goal.returns
 returns g c =
@@ -39,5 +39,5 @@ returns g c =
     let ls = lines_of c.args.table.now in
     let places = c.figures.new.figures in
     let was : Status = status_of s in
-    let step : Opening m was c.args.table.now (Ok c.in-ok-admitted.admitted) (opened was ls places) = opens shut c.in-ok-admitted.ensures in
-    record { step = subst (Opening m was c.args.table.now (Ok c.in-ok-admitted.admitted)) (status_eq (opened was ls places) _ refl refl refl (sym (all_unused 32))) step; only = opening_sole _ _ _; policy = refl }
+    let step : Opening m was c.args.table.now (Ok c.in_ok-admitted.admitted) (opened was ls places) = opens shut c.in_ok-admitted.ensures in
+    record { step = subst (Opening m was c.args.table.now (Ok c.in_ok-admitted.admitted)) (status_eq (opened was ls places) _ refl refl refl (sym (all_unused 32))) step; only = opening_sole _ _ _; policy = refl }

@@ -15,53 +15,53 @@ use Rattle.engine.proofs.Releases.{too_early, job_open, accepted, released_fair}
 use Rattle.engine.proofs.Sole.{release_sole}
 use Rattle.engine.proofs.engine.Engine.release.Goals as goal
 
-pub returns-in-err-line : goal.returns-in-err-line
-returns-in-err-line g c =
-    let p = err_from_is_err_and c.from-residual.result c.from-residual.ensures.1 in
-    record { step = rw (p.1, p.2) (refused _ _ _ _ _ c.in-err-line.ensures); only = release_sole _ _ _; policy = refl }
+pub returns-in_err-line : goal.returns-in_err-line
+returns-in_err-line g c =
+    let p = err_from_is_err_and c.from_residual.result c.from_residual.ensures.1 in
+    record { step = rw (p.1, p.2) (refused _ _ _ _ _ c.in_err-line.ensures); only = release_sole _ _ _; policy = refl }
 
-pub overflow-sub-i : goal.overflow-sub-i
-overflow-sub-i g c = let f = found _ _ _ _ c.in-ok-line.ensures in f.2.0.0
+pub overflow_sub-i : goal.overflow_sub-i
+overflow_sub-i g c = let f = found _ _ _ _ c.in_ok-line.ensures in f.2.0.0
 
 pub bounds-self-i : goal.bounds-self-i
 bounds-self-i g c =
-    let f = found _ _ _ _ c.in-ok-line.ensures in
+    let f = found _ _ _ _ c.in_ok-line.ensures in
     omega (arith, f.2.0.1, few_lines c.args.self.now.state.setup f.0 f.1)
 
-pub returns-then-not-is-rested : goal.returns-then-not-is-rested
-returns-then-not-is-rested g c =
+pub returns-then-not-is_rested : goal.returns-then-not-is_rested
+returns-then-not-is_rested g c =
     let s = c.args.self.now.state in
     let p = c.args.self.now.policy in
     let m : Meaning = meaning g.P.Policy p in
-    let f = found _ _ _ _ c.in-ok-line.ensures in
-    record { step = too_early m s c.args.task f.0 c.in-ok-line.line f.1 f.2 (λ r. both_ways c.is-rested.result c.if-not-is-rested.true (c.is-rested.ensures.1 r)); only = release_sole _ _ _; policy = refl }
+    let f = found _ _ _ _ c.in_ok-line.ensures in
+    record { step = too_early m s c.args.task f.0 c.in_ok-line.line f.1 f.2 (λ r. both_ways c.is_rested.result c.if-not-is_rested.true (c.is_rested.ensures.1 r)); only = release_sole _ _ _; policy = refl }
 
 pub returns-in-Open : goal.returns-in-Open
 returns-in-Open g c =
     let s = c.args.self.now.state in
     let p = c.args.self.now.policy in
     let m : Meaning = meaning g.P.Policy p in
-    let f = found _ _ _ _ c.in-ok-line.ensures in
-    record { step = job_open m s c.args.task f.0 c.in-ok-line.line f.1 f.2 c.in-Open.field-0 (c.is-rested.ensures.0 c.if-not-is-rested.false) c.in-Open.is; only = release_sole _ _ _; policy = refl }
+    let f = found _ _ _ _ c.in_ok-line.ensures in
+    record { step = job_open m s c.args.task f.0 c.in_ok-line.line f.1 f.2 c.in-Open.field-0 (c.is_rested.ensures.0 c.if-not-is_rested.false) c.in-Open.is; only = release_sole _ _ _; policy = refl }
 
 pub bounds-self-i-2 : goal.bounds-self-i-2
 bounds-self-i-2 g c =
-    let f = found _ _ _ _ c.in-ok-line.ensures in
+    let f = found _ _ _ _ c.in_ok-line.ensures in
     omega (arith, f.2.0.1, few_lines c.args.self.now.state.setup f.0 f.1)
 
-pub invariant-of-self : goal.invariant-of-self
-invariant-of-self g c =
+pub invariant_of-self : goal.invariant_of-self
+invariant_of-self g c =
     let self = c.args.self.now in
     let s = self.state in
     let i = c.args.task - 1 in
     let held = get_or s.tasks i unused in
-    let fair : Fair s.ticks (released held s.ticks (Open c.job-begun.result)) = rw c.job-begun.ensures (released_fair s.ticks c.in-ok-line.line held c.plan-at-plan.result (self.fair i) (c.is-rested.ensures.0 c.if-not-is-rested.false) c.in-default.is) in
-    (self.ticked, (each_set (Fair s.ticks) s.tasks i (released held s.ticks (Open c.job-begun.result)) self.fair fair, tt))
+    let fair : Fair s.ticks (released held s.ticks (Open c.job_begun.result)) = rw c.job_begun.ensures (released_fair s.ticks c.in_ok-line.line held c.plan_at-plan.result (self.fair i) (c.is_rested.ensures.0 c.if-not-is_rested.false) c.in_default.is) in
+    record { ticked = self.ticked; fair = each_set (Fair s.ticks) s.tasks i (released held s.ticks (Open c.job_begun.result)) self.fair fair }
 
 pub returns : goal.returns
 returns g c =
     let s = c.args.self.now.state in
     let p = c.args.self.now.policy in
     let m : Meaning = meaning g.P.Policy p in
-    let f = found _ _ _ _ c.in-ok-line.ensures in
-    record { step = rw c.job-begun.ensures (accepted m s c.args.task f.0 c.in-ok-line.line f.1 f.2 c.plan-at-plan.result (search rules) (c.is-rested.ensures.0 c.if-not-is-rested.false) c.in-default.is c.plan-at-plan.ensures); only = release_sole _ _ _; policy = refl }
+    let f = found _ _ _ _ c.in_ok-line.ensures in
+    record { step = rw c.job_begun.ensures (accepted m s c.args.task f.0 c.in_ok-line.line f.1 f.2 c.plan_at-plan.result (search rules) (c.is_rested.ensures.0 c.if-not-is_rested.false) c.in_default.is c.plan_at-plan.ensures); only = release_sole _ _ _; policy = refl }
