@@ -12,7 +12,7 @@ fn print_reports(rt: &HostRuntime, input: &[u8]) -> anyhow::Result<()> {
         if *byte != b'\n' {
             continue;
         }
-        if &input[line..i] == b"%%" {
+        if &input[line..i] == b"%%".as_slice() {
             rt.stdout()
                 .write_all(report(rt.alloc(), &input[start..line])?.as_slice())?;
             rt.stdout().write_all(b"%%\n")?;

@@ -17,8 +17,7 @@ fn show_line(rt: &HostRuntime, line: &Line) -> anyhow::Result<()> {
 
 pub(crate) fn stage(rt: &HostRuntime, table: &Table) -> anyhow::Result<()> {
     println!(rt; "")?;
-    println!(
-        rt;
+    println!(rt;
         "3. A line's demand of n jobs is the greatest sum of n bits' costs in a row, going round its"
     )?;
     println!(rt; "   word: under SRE a 0 costs u and a 1 costs r.")?;

@@ -1,7 +1,6 @@
 // The first stage: the text's lines and fields, each with its place.
 use std::io::Write;
-use text::line::Fields;
-use text::line::split_fields;
+use text::line::{Fields, split_fields};
 use text::token::Part;
 
 // Writes bytes as they are.
@@ -47,14 +46,10 @@ fn show_line(rt: &HostRuntime, number: u32, part: Part<'_>) -> anyhow::Result<()
 pub(crate) fn stage(rt: &HostRuntime, text: &[u8]) -> anyhow::Result<()> {
     let count = text.len();
     println!(rt; "")?;
-    println!(
-        rt;
+    println!(rt;
         "1. The text has {count} bytes. Each line is cut at its commas into nine fields, and each"
     )?;
-    println!(
-        rt;
-        "   field keeps the place of its first byte, so that a refusal can point at it."
-    )?;
+    println!(rt; "   field keeps the place of its first byte, so that a refusal can point at it.")?;
     let mut start = 0;
     let mut number: u32 = 1;
     for (end, byte) in text.iter().enumerate() {

@@ -9,27 +9,20 @@ mod show;
 use std::io::Read;
 use tasks::refusal::Refusal;
 use tasks::table::Table;
-use text::read::LONGEST;
-use text::read::read;
+use text::read::{LONGEST, read};
 
 fn refused(rt: &HostRuntime, refusal: Refusal) -> anyhow::Result<()> {
     let number = refusal.number();
     let line = refusal.line();
     let place = refusal.place();
-    println!(
-        rt;
-        "The table is refused: {number}, line {line}, place {place}."
-    )?;
+    println!(rt; "The table is refused: {number}, line {line}, place {place}.")?;
     Ok(())
 }
 
 fn run(rt: &HostRuntime) -> anyhow::Result<()> {
     let mut text = Vec::new(rt.alloc());
     rt.stdin().take(LONGEST as u64 + 1).read_to_end(&mut text)?;
-    println!(
-        rt;
-        "From the bytes of a task table to its verdict, stage by stage."
-    )?;
+    println!(rt; "From the bytes of a task table to its verdict, stage by stage.")?;
     fields::stage(rt, text.as_slice())?;
     let mut table = Table::new();
     match read(&mut table, text.as_slice()) {

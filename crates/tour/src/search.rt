@@ -43,8 +43,7 @@ fn show_search(rt: &HostRuntime, above: &[Line], line: &Line) -> anyhow::Result<
 
 fn show_verdict(rt: &HostRuntime, table: &Table) -> anyhow::Result<()> {
     println!(rt; "")?;
-    println!(
-        rt;
+    println!(rt;
         "5. The verdict: a table is admitted if no figure is 0. As the proved library tells it:"
     )?;
     let mut places = [0; 32];
@@ -63,12 +62,10 @@ fn show_verdict(rt: &HostRuntime, table: &Table) -> anyhow::Result<()> {
 
 pub(crate) fn stage(rt: &HostRuntime, table: &Table) -> anyhow::Result<()> {
     println!(rt; "")?;
-    println!(
-        rt;
+    println!(rt;
         "4. A line's figure is the smallest t by which its own job and all that the lines above may"
     )?;
-    println!(
-        rt;
+    println!(rt;
         "   ask for up to t are done. The search starts at 1 and goes on from t to the load at t."
     )?;
     let lines = table.lines();

@@ -23,8 +23,7 @@ fn show_line(rt: &HostRuntime, line: &Line) -> anyhow::Result<()> {
     let m = line.m;
     let k = line.k;
     let technique = line.technique.word();
-    println!(
-        rt;
+    println!(rt;
         ": of any {k} jobs in a row, {m} must come out right, by the technique {technique}."
     )?;
     show_word(rt, line)?;
@@ -32,8 +31,7 @@ fn show_line(rt: &HostRuntime, line: &Line) -> anyhow::Result<()> {
     let detect = line.time(Version::Detect);
     let correct = line.time(Version::Correct);
     let period = line.period;
-    println!(
-        rt;
+    println!(rt;
         "  bare {bare}, detecting {detect}, correcting {correct} ticks, released every {period} ticks at most"
     )?;
     Ok(())
@@ -41,14 +39,10 @@ fn show_line(rt: &HostRuntime, line: &Line) -> anyhow::Result<()> {
 
 pub(crate) fn stage(rt: &HostRuntime, table: &Table) -> anyhow::Result<()> {
     println!(rt; "")?;
-    println!(
-        rt;
+    println!(rt;
         "2. The fields keep the rules of a line, and the lines those of a table. The pattern R puts"
     )?;
-    println!(
-        rt;
-        "   the ones last; bit 0 is written first, and stands for the first job."
-    )?;
+    println!(rt; "   the ones last; bit 0 is written first, and stands for the first job.")?;
     for line in table.lines() {
         show_line(rt, line)?;
     }
