@@ -1,11 +1,10 @@
 // The lines that tell what calls were answered, and how the tasks stand.
 ghost use Rattle.std.specs.Prelude.{◌≡◌, ◌++◌, IfOk, string_bytes, OnOk};
 ghost use Rattle.transcript.specs.Answers.{reply_line, answer_line, task_line};
+
 use report::report::refused;
-use service::log::Answer;
-use service::log::Reply;
-use std::alloc::AllocError;
-use std::alloc::Global;
+use service::log::{Answer, Reply};
+use std::alloc::{AllocError, Global};
 
 fn reply_line(heap: Global, reply: Reply) -> Result<String, AllocError>
     ensures { IfOk result (λ s. string_bytes s ≡ reply_line reply) }

@@ -3,6 +3,7 @@ ghost use Rattle.std.specs.Prelude.{◌≡◌, ℕ, MatchOption};
 ghost use Rattle.service.specs.declared.log.Call.{Call};
 ghost use Rattle.text.specs.Values.{number_of};
 ghost use Rattle.transcript.specs.Calls.{Numeral, Follows, Says};
+
 use service::log::Call;
 use tasks::table::Table;
 
@@ -34,7 +35,7 @@ fn number_after(line: &[u8], word: &[u8]) -> Option<u32>
 pub fn call_on(line: &[u8], table: &Table) -> Option<Call>
     ensures { MatchOption result ((c : Call) → Says table.now line.now c → ⊥) (λ c. Says table.now line.now c × ((other : Call) → Says table.now line.now other → other ≡ c)) }
 {
-    if line == b"open" {
+    if line == b"open".as_slice() {
         Some(Call::Open { table: *table })
     } else if let Some(task) = number_after(line, b"release ") {
         Some(Call::Release { task })

@@ -8,15 +8,15 @@ use Rattle.text.proofs.Steps.{number_end}
 use Rattle.transcript.proofs.Numbering.{small_now, small_next, digit_bound}
 use Rattle.transcript.proofs.call.number.Goals as goal
 
-pub returns-then-not-is-ascii-digit : goal.returns-then-not-is-ascii-digit
-returns-then-not-is-ascii-digit c =
-    λ numeral. false≢true (every_stop digit c.args.digits.now c.loop-digit.digit-index c.loop-digit.invariant.0 (omega arith) (sym c.if-not-is-ascii-digit.ensures.value) ∙ numeral.2)
+pub returns-then-not-is_ascii_digit : goal.returns-then-not-is_ascii_digit
+returns-then-not-is_ascii_digit c =
+    λ numeral. false≢true (every_stop digit c.args.digits.now c.loop-digit.digit-index c.loop-digit.invariant.0 (omega arith) (sym c.if-not-is_ascii_digit.ensures.value) ∙ numeral.2)
 
-pub overflow-mul-value : goal.overflow-mul-value
-overflow-mul-value c = omega (arith, small_now c.loop-digit.value c.args.digits.now c.loop-digit.digit-index (omega arith) (omega arith) c.loop-digit.invariant.2)
+pub overflow_mul-value : goal.overflow_mul-value
+overflow_mul-value c = omega (arith, small_now c.loop-digit.value c.args.digits.now c.loop-digit.digit-index (omega arith) (omega arith) c.loop-digit.invariant.2)
 
-pub overflow-add-value : goal.overflow-add-value
-overflow-add-value c = omega (arith, small_now c.loop-digit.value c.args.digits.now c.loop-digit.digit-index (omega arith) (omega arith) c.loop-digit.invariant.2, c.type-inv.digits c.loop-digit.digit-index)
+pub overflow_add-value : goal.overflow_add-value
+overflow_add-value c = omega (arith, small_now c.loop-digit.value c.args.digits.now c.loop-digit.digit-index (omega arith) (omega arith) c.loop-digit.invariant.2, c.type_inv.digits c.loop-digit.digit-index)
 
 pub loop-digit-preserved : goal.loop-digit-preserved
 loop-digit-preserved c =
@@ -24,7 +24,7 @@ loop-digit-preserved c =
     let i = c.loop-digit.digit-index in
     let n = c.loop-digit.value in
     let h : i < length ds = omega arith in
-    let is : digit (get_or ds i 0) ≡ true = sym c.if-not-is-ascii-digit.ensures.value in (
+    let is : digit (get_or ds i 0) ≡ true = sym c.if-not-is_ascii_digit.ensures.value in (
       every_step digit ds i c.loop-digit.invariant.0 h is,
       sym (at_drop_more (number_after n) ds i 0 h) ∙ c.loop-digit.invariant.1,
       small_next n ds i (omega arith) h c.loop-digit.invariant.2 (get_or ds i 0) (digit_bound (get_or ds i 0) is),
