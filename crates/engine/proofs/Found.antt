@@ -1,11 +1,11 @@
 -- The line that a task's number names in an engine's table.
-use Rattle.std.proofs.Common.{◌≡◌, ℕ, ◌-◌, ◌<◌, ◌≤◌, Bool, true, false, List, length, Some, None, Ok, Err, Result, sym, refl, ap, ◌∙◌, subst, arith}
+use Rattle.std.proofs.Common.{◌≡◌, ℕ, ◌≤◌, Bool, true, false, List, length, Some, None, Ok, Err, Result, refl, ap, subst, arith}
 use Rattle.std.proofs.lemmas.List.{length-take}
 use Rattle.tasks.specs.declared.line.Line.{Line}
 use Rattle.tasks.specs.declared.refusal.Refusal.{Refusal}
 use Rattle.tasks.specs.Tables.{lines_of, Numbered}
 use Rattle.engine.specs.declared.state.Setup.{Setup}
-use Rattle.engine.specs.Status.{Status, lines_if, open_lines, status_of}
+use Rattle.engine.specs.Status.{Status, lines_if, open_lines}
 use Rattle.engine.specs.Steps.{OfTask, no_table, no_task, of_line}
 use Rattle.engine.specs.Lookups.{LineOf}
 

@@ -1,5 +1,5 @@
 -- A release, told by the record of its task at its place.
-use Rattle.std.proofs.Common.{◌≡◌, ℕ, ◌+◌, ◌-◌, ◌<◌, ◌≤◌, ◌⊎◌, List, length, get_or, set, Some, Ok, Err, sym, refl, ap, ◌∙◌, subst, inl, inr, ⊎_elim, arith}
+use Rattle.std.proofs.Common.{◌≡◌, ℕ, ◌+◌, ◌-◌, ◌<◌, ◌≤◌, List, length, get_or, set, Some, Ok, Err, sym, refl, ap, ◌∙◌, subst, inl, inr, ⊎_elim, arith}
 use Rattle.std.proofs.lemmas.Bool.{cases_eq, cases_lt}
 use Rattle.tasks.specs.declared.line.Line.{Line}
 use Rattle.tasks.specs.declared.job.Plan.{Plan}
@@ -14,7 +14,7 @@ use Rattle.engine.specs.declared.state.State.{State}
 use Rattle.engine.specs.Jobs.{unused, begun, released}
 use Rattle.engine.specs.Kept.{Fair}
 use Rattle.engine.specs.Status.{Status, open_lines, task_of, put, status_of}
-use Rattle.engine.specs.Steps.{Rested, ReleaseOn, Release, early, still_open, starts, of_line}
+use Rattle.engine.specs.Steps.{Rested, Release, early, still_open, starts, of_line}
 use Rattle.engine.proofs.Tasks.{task_at, task_set}
 use Rattle.engine.proofs.Found.{status_eq}
 

@@ -1,5 +1,5 @@
 -- A tick, told by the records of the tasks at their places.
-use Rattle.std.proofs.Common.{◌≡◌, ℕ, zero, suc, ◌+◌, ◌-◌, ◌<◌, ◌≤◌, List, length, get_or, take, set, Some, None, Ok, sym, refl, ap, ◌∙◌, subst, ⊎_elim, arith}
+use Rattle.std.proofs.Common.{◌≡◌, ℕ, zero, suc, ◌+◌, ◌-◌, ◌<◌, ◌≤◌, List, length, get_or, take, set, Some, Ok, sym, refl, ap, ◌∙◌, subst, ⊎_elim, arith}
 use Rattle.std.proofs.lemmas.List.{get_or-take, get_or_past, length-take}
 use Rattle.std.proofs.lemmas.Bool.{cases_lt}
 use Rattle.std.proofs.lemmas.Bool.Decides.{nat_tests}
@@ -18,7 +18,7 @@ use Rattle.engine.specs.declared.state.State.{State}
 use Rattle.engine.specs.Jobs.{unused, heard, faulted, task_after}
 use Rattle.engine.specs.Kept.{busy, left, Fair}
 use Rattle.engine.specs.Status.{Status, open_lines, task_of, put, status_of, most_ticks}
-use Rattle.engine.specs.Steps.{Quiet, Turn, later, TickOn, Tick, runs, ticks}
+use Rattle.engine.specs.Steps.{Quiet, Turn, later, Tick, runs, ticks}
 use Rattle.engine.specs.Lookups.{FirstOpen}
 use Rattle.engine.proofs.Tasks.{task_at, task_set}
 use Rattle.engine.proofs.Found.{status_eq}

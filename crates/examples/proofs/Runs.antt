@@ -1,5 +1,5 @@
 -- The run of an engine, step by step: its log is served, and no other is.
-use Rattle.std.proofs.Common.{◌≡◌, ℕ, ◌+◌, ◌<◌, ◌≤◌, true, List, [], ◌∷◌, map, reverse, replicate, Some, Ok, Err, codes, sym, refl, ap, ◌∙◌, subst, inl, inr, arith, lit<, lit≤}
+use Rattle.std.proofs.Common.{◌≡◌, ℕ, ◌+◌, ◌<◌, true, List, [], ◌∷◌, map, reverse, replicate, Some, Ok, Err, codes, sym, refl, ap, ◌∙◌, subst, inl, inr, arith, lit<, lit≤}
 use mathlib.Core.List.{reverse_aux, reverse-reverse}
 use Rattle.words.specs.Bits.{word_of}
 use Rattle.words.specs.Sums.{sum_below, row, greatest_below, greatest_row}

@@ -3,7 +3,7 @@ use Rattle.std.proofs.Common.{◌≡◌, ℕ, Bool, true}
 use Rattle.tasks.specs.declared.line.Line.{Line}
 use Rattle.tasks.specs.declared.job.Plan.{Plan}
 use Rattle.tasks.specs.declared.job.Ending.{Ending}
-use Rattle.policies.specs.Promises.{Meaning, meant, Reliable, Bounded, Rising, Capped, Promises}
+use Rattle.policies.specs.Promises.{meant, Reliable, Bounded, Rising, Capped, Promises}
 
 module _ {takes : Line → Bool} {plan : Line → ℕ → Plan} {next : Line → ℕ → Ending → ℕ} {demand : Line → ℕ → ℕ} where
   pub promised :

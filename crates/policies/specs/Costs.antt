@@ -1,5 +1,5 @@
 -- What the bits of a word cost, given what a 0 and a 1 cost.
-use Rattle.std.specs.Prelude.{◌≡◌, ℕ, zero, suc, ◌+◌, ◌-◌, ◌*◌, ◌≤◌, refl}
+use Rattle.std.specs.Prelude.{◌≡◌, ℕ, zero, suc, ◌+◌, ◌-◌, ◌*◌, ◌≤◌}
 use Rattle.std.proofs.Common.{ap, suc-mul, add-mul, arith}
 use Rattle.words.specs.Sums.{sum_below}
 use Rattle.words.specs.Bits.{bit, ones}

@@ -1,9 +1,9 @@
 -- The techniques keep the promises: FR by itself, the four that go by bits together.
-use Rattle.std.specs.Prelude.{◌≡◌, ℕ, zero, suc, ◌+◌, ◌*◌, ◌%◌, ◌<◌, ◌≤◌, Bool, true, false, cond, ◌⊎◌, List, [], ◌∷◌, ◌++◌, length, refl}
-use Rattle.std.proofs.Common.{sym, ◌∙◌, inl, inr, suc-mul, mul-le-mul_right, mul-le-mul_left, arith}
+use Rattle.std.specs.Prelude.{◌≡◌, ℕ, zero, suc, ◌+◌, ◌*◌, ◌%◌, ◌<◌, ◌≤◌, true, false, cond, ◌⊎◌, List, [], ◌∷◌, length, refl}
+use Rattle.std.proofs.Common.{◌∙◌, inl, inr, suc-mul, mul-le-mul_right, mul-le-mul_left, arith}
 use Rattle.std.proofs.Math.Path.{ap}
 use Rattle.std.proofs.Math.Logic.{⊎_elim}
-use Rattle.words.specs.Sums.{sum_below, row, greatest_row}
+use Rattle.words.specs.Sums.{row}
 use Rattle.words.specs.Bits.{bit}
 use Rattle.words.specs.Turns.{turned_bit}
 use Rattle.words.proofs.Sums.{row_none, row_round, row_turned}
@@ -14,7 +14,6 @@ use Rattle.tasks.specs.declared.technique.Technique.TheVariants.{Fr, Sre, Sdr, D
 use Rattle.tasks.specs.declared.job.Plan.{Plan}
 use Rattle.tasks.specs.declared.job.Plan.TheVariants.{Bare, Detect, Correct, Recover}
 use Rattle.tasks.specs.declared.job.Ending.{Ending}
-use Rattle.tasks.specs.declared.job.Ending.TheVariants.{Blind, Clean, Bad, Sure}
 use Rattle.policies.specs.Endings.{Allows, bare_blind, detect_clean, detect_bad, correct_sure, recover_clean, recover_sure, right, cost, worst}
 use Rattle.policies.specs.Runs.{Run, mark_after, costs, rights}
 use Rattle.policies.specs.Promises.{most_per_job, Keeps}

@@ -5,7 +5,7 @@ use Rattle.tasks.specs.declared.job.Plan.{Plan}
 use Rattle.tasks.specs.declared.job.Plan.TheVariants.{Bare, Detect, Correct, Recover}
 use Rattle.tasks.specs.declared.job.Ending.{Ending}
 use Rattle.tasks.specs.declared.job.Ending.TheVariants.{Blind, Clean, Bad, Sure}
-use Rattle.policies.specs.Endings.{Allows, bare_blind, detect_clean, detect_bad, correct_sure, recover_clean, recover_sure}
+use Rattle.policies.specs.Endings.{Allows, bare_blind, detect_bad, correct_sure, recover_clean, recover_sure}
 use Rattle.policies.specs.Runs.{Run, mark_after}
 use Rattle.policies.specs.Patterns.{moves}
 

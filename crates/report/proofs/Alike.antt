@@ -1,5 +1,5 @@
 -- Lines that say the same have the same demands, and so the same figures.
-use Rattle.std.proofs.Common.{◌≡◌, ℕ, zero, suc, ◌+◌, ◌-◌, ◌*◌, ◌<◌, ◌≤◌, Bool, true, false, leb, List, [], ◌∷◌, map, length, get_or, take, Decides, sum_by, Result, sym, refl, ap, ◌∙◌, subst, arith}
+use Rattle.std.proofs.Common.{◌≡◌, ℕ, ◌+◌, ◌-◌, ◌*◌, ◌<◌, ◌≤◌, Bool, leb, List, [], ◌∷◌, map, length, get_or, take, Decides, Result, sym, refl, ap, ◌∙◌, subst, arith}
 use lib.ListN.{length-map}
 use Rattle.std.proofs.lemmas.List.{take-map, get_or-map, get_or_default}
 use Rattle.std.proofs.lemmas.List.Sums.{sum_by-cons}
@@ -13,7 +13,7 @@ use Rattle.tasks.specs.Rows.{Row, row_of}
 use Rattle.tasks.specs.Tables.{IsLine}
 use Rattle.policies.specs.Patterns.{cost_at}
 use Rattle.policies.specs.Techniques.{technique_takes, technique_demand}
-use Rattle.response.specs.Figures.{limit, load_above, Passes, Figure, smallest, none, Figures, Admitted, Taken, FirstDeclined, Answered, worked_out, no_lines, declined}
+use Rattle.response.specs.Figures.{load_above, Passes, Figure, smallest, none, Figures, Admitted, Taken, FirstDeclined, Answered, worked_out, no_lines, declined}
 use Rattle.response.proofs.Single.{answered_one}
 use Rattle.report.specs.Answer.{takes, demand}
 

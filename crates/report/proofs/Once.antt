@@ -1,14 +1,12 @@
 -- A text has one answer.
-use Rattle.std.proofs.Common.{◌≡◌, ℕ, Bool, List, [], ◌∷◌, ◌++◌, map, Ok, Err, Result, sym, refl, ap, ◌∙◌, subst, arith}
+use Rattle.std.proofs.Common.{◌≡◌, ℕ, List, [], ◌∷◌, ◌++◌, map, Ok, Err, sym, refl, ap, ◌∙◌, subst, arith}
 use Rattle.tasks.specs.declared.line.Line.{Line}
 use Rattle.tasks.specs.declared.refusal.Refusal.{Refusal}
-use Rattle.tasks.specs.declared.table.Table.{Table}
 use Rattle.tasks.specs.Lines.{names}
-use Rattle.tasks.specs.Rows.{Row, row_of, rows_of}
+use Rattle.tasks.specs.Rows.{Row, row_of}
 use Rattle.tasks.specs.Tables.{lines_of}
-use Rattle.response.specs.Figures.{Answered}
 use Rattle.text.specs.Reading.{reading}
-use Rattle.report.specs.Answer.{figure_lines, verdict_line, refusal_line, takes, demand, Answers, unread, refused, worked_out, TheAnswer}
+use Rattle.report.specs.Answer.{figure_lines, verdict_line, refusal_line, Answers, unread, refused, worked_out, TheAnswer}
 use Rattle.report.proofs.Alike.{answer_alike}
 
 names_said : (ls : List Line) → names ls ≡ map (λ (r : Row). r.name) (map row_of ls)

@@ -1,5 +1,5 @@
 -- The bytes that answer a table text.
-use Rattle.std.specs.Prelude.{◌≡◌, ℕ, suc, ◌+◌, ◌-◌, Bool, true, false, List, [], ◌∷◌, ◌++◌, Ok, Err, codes, decimal, slice_index}
+use Rattle.std.specs.Prelude.{◌≡◌, ℕ, ◌+◌, ◌-◌, Bool, true, false, List, [], ◌∷◌, ◌++◌, Ok, Err, codes, decimal, slice_index}
 use Rattle.tasks.specs.Lines.{names}
 use Rattle.tasks.specs.Refused.{told_number, told_line, told_place}
 use Rattle.tasks.specs.Rows.{rows_of}

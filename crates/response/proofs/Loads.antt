@@ -1,5 +1,5 @@
 -- The load of the lines above never falls as time goes on, and stays small, by what a policy promises.
-use Rattle.std.proofs.Common.{◌≡◌, ℕ, zero, suc, ◌+◌, ◌-◌, ◌*◌, ◌/◌, ◌^◌, ◌<◌, ◌≤◌, Bool, true, List, [], ◌∷◌, length, get_or, sum_by, le_trans, le-div_iff_mul-le, div-le_self, div-mul-le_self, arith}
+use Rattle.std.proofs.Common.{◌≡◌, ℕ, suc, ◌+◌, ◌-◌, ◌≤◌, Bool, true, List, [], ◌∷◌, length, le_trans, le-div_iff_mul-le, div-le_self, div-mul-le_self, arith}
 use Rattle.std.proofs.lemmas.List.Sums.{sum_by-cons}
 use Rattle.words.specs.Patterns.{up}
 use Rattle.tasks.specs.declared.line.Line.{Line}

@@ -1,10 +1,9 @@
 -- What is carried along a served log: the engine's status has what the account says, and the busy window's balance holds.
-use Rattle.std.proofs.Common.{◌≡◌, ℕ, zero, suc, ◌+◌, ◌-◌, ◌<◌, ◌≤◌, Bool, true, false, ◌≢◌, ◌⊎◌, List, [], ◌∷◌, ◌++◌, length, get_or, Some, None, Ok, Err, Result, sym, refl, ap, ◌∙◌, subst, inl, inr, ⊎_elim, append-nil, arith, length-append}
+use Rattle.std.proofs.Common.{◌≡◌, ℕ, zero, suc, ◌+◌, ◌<◌, ◌≤◌, Bool, true, ◌≢◌, List, [], ◌∷◌, ◌++◌, length, get_or, Some, None, Result, sym, refl, ap, ◌∙◌, subst, inl, inr, ⊎_elim, append-nil, arith, length-append}
 use Rattle.std.proofs.lemmas.Bool.{cases_eq}
 use Rattle.tasks.specs.declared.line.Line.{Line}
 use Rattle.tasks.specs.declared.table.Table.{Table}
 use Rattle.tasks.specs.declared.job.Plan.{Plan}
-use Rattle.tasks.specs.declared.job.Ending.{Ending}
 use Rattle.tasks.specs.declared.job.Outcome.{Outcome}
 use Rattle.tasks.specs.declared.job.Outcome.TheVariants.{Idle, On, Again, Ended}
 use Rattle.tasks.specs.declared.refusal.Refusal.{Refusal}
@@ -16,23 +15,23 @@ use Rattle.window.proofs.Sums.{by_place}
 use Rattle.window.proofs.Costs.{mark_append}
 use Rattle.window.proofs.Task as window-task
 use Rattle.window.proofs.Sound.{task_eq, Sound, sound_opened, sound_idle, sound_release, sound_tick}
-use Rattle.response.specs.Figures.{Figures, Taken, Answered, worked_out}
+use Rattle.response.specs.Figures.{Figures, Taken, worked_out}
 use Rattle.engine.specs.declared.state.OpenJob.{OpenJob}
 use Rattle.engine.specs.declared.state.Job.{Job}
 use Rattle.engine.specs.declared.state.Job.TheVariants.{Closed, Open}
 use Rattle.engine.specs.declared.state.Task.{Task}
-use Rattle.engine.specs.Jobs.{is_open, unused, begun, heard, job_after, released, task_after}
+use Rattle.engine.specs.Jobs.{is_open, begun, heard, job_after, released, task_after}
 use Rattle.engine.specs.Kept.{busy, left}
 use Rattle.engine.specs.Status.{Status, new_status, put}
-use Rattle.engine.specs.Steps.{opened, closed, Opening, already_open, unfit, opens, OfTask, no_table, no_task, of_line, Rested, ReleaseOn, Release, early, still_open, starts, Quiet, Turn, later, TickOn, idles, no_job, unheard, runs, Tick, unopened, spent, ticks}
+use Rattle.engine.specs.Steps.{opened, closed, Opening, already_open, unfit, opens, OfTask, no_table, no_task, of_line, Rested, ReleaseOn, Release, early, still_open, starts, Quiet, Turn, later, idles, no_job, unheard, runs, Tick, unopened, spent, ticks}
 use Rattle.engine.proofs.Sole.{same_line}
 use Rattle.service.specs.declared.log.Call.{Call}
 use Rattle.service.specs.declared.log.Call.TheVariants as call
 use Rattle.service.specs.declared.log.Reply.{Reply}
-use Rattle.service.specs.declared.log.Reply.TheVariants.{Opened, Planned, Ticked, Counted, Figured}
+use Rattle.service.specs.declared.log.Reply.TheVariants.{Opened, Planned}
 use Rattle.service.specs.declared.log.Entry.{Entry}
 use Rattle.service.specs.Account.{Tally, Account, untouched, with_release, with_outcome, noted, account}
-use Rattle.service.specs.Served.{answer, ticked, counted, Answers, Served, no_call, one_more}
+use Rattle.service.specs.Served.{answer, ticked, Answers, Served, no_call, one_more}
 use Rattle.service.proofs.Jobs.{pending_of, begun_pending, begun_lasts, heard_comes, heard_lasts}
 use Rattle.service.proofs.Lines.{at_place, put_here, put_there, put_same}
 

@@ -1,5 +1,5 @@
 -- Each list of calls has one list of answers.
-use Rattle.std.proofs.Common.{◌≡◌, ℕ, List, [], ◌∷◌, length, Result, sym, refl, ap, ◌∙◌, subst, arith}
+use Rattle.std.proofs.Common.{◌≡◌, List, ◌∷◌, length, Result, sym, refl, ap, ◌∙◌, subst, arith}
 use Rattle.tasks.specs.declared.refusal.Refusal.{Refusal}
 use Rattle.policies.specs.Promises.{Meaning}
 use Rattle.engine.specs.Status.{Status}

@@ -1,35 +1,33 @@
 -- Every served log keeps the service guarantee.
-use Rattle.std.proofs.Common.{◌≡◌, ℕ, zero, suc, ◌+◌, ◌-◌, ◌<◌, ◌≤◌, Bool, true, false, cond, eqb, List, [], ◌∷◌, ◌++◌, length, get_or, take, Some, None, Ok, Err, Result, sym, refl, ap, ◌∙◌, subst, arith}
+use Rattle.std.proofs.Common.{◌≡◌, ℕ, zero, suc, ◌+◌, ◌-◌, ◌<◌, ◌≤◌, Bool, cond, eqb, List, ◌++◌, length, get_or, take, Some, Ok, Err, Result, sym, refl, ap, ◌∙◌, subst, arith}
 use Rattle.std.proofs.lemmas.Bool.{cond-true, cond-false, eq-eqb, ne_eqb}
 use Rattle.tasks.specs.declared.line.Line.{Line}
 use Rattle.tasks.specs.declared.table.Table.{Table}
 use Rattle.tasks.specs.declared.job.Plan.{Plan}
 use Rattle.tasks.specs.declared.job.Ending.{Ending}
 use Rattle.tasks.specs.declared.job.Outcome.{Outcome}
-use Rattle.tasks.specs.declared.job.Outcome.TheVariants.{Idle}
 use Rattle.tasks.specs.declared.refusal.Refusal.{Refusal}
 use Rattle.tasks.specs.Tables.{IsLine, Numbered}
 use Rattle.policies.specs.Promises.{Meaning, Promises}
-use Rattle.policies.specs.Runs.{mark_after, rights}
+use Rattle.policies.specs.Runs.{rights}
 use Rattle.window.proofs.Pending as window
 use Rattle.window.proofs.Sums.{by_place, sum_upto}
-use Rattle.window.proofs.Sound.{Sound, sound_in_time, sound_reliable}
+use Rattle.window.proofs.Sound.{sound_in_time, sound_reliable}
 use Rattle.response.specs.Figures as response
 use Rattle.engine.specs.declared.state.OpenJob.{OpenJob}
 use Rattle.engine.specs.declared.state.Job.TheVariants.{Closed, Open}
-use Rattle.engine.specs.Jobs.{heard}
 use Rattle.engine.specs.Kept.{busy}
-use Rattle.engine.specs.Status.{Status, new_status}
+use Rattle.engine.specs.Status.{Status}
 use Rattle.engine.specs.Steps as step
 use Rattle.engine.proofs.Sole.{same_line}
 use Rattle.service.specs.declared.log.Call.{Call}
 use Rattle.service.specs.declared.log.Call.TheVariants as call
 use Rattle.service.specs.declared.log.Reply.{Reply}
-use Rattle.service.specs.declared.log.Reply.TheVariants.{Opened, Planned, Ticked, Counted, Figured}
+use Rattle.service.specs.declared.log.Reply.TheVariants.{Opened, Planned, Ticked, Figured}
 use Rattle.service.specs.declared.log.Entry.{Entry}
-use Rattle.service.specs.Account.{Tally, Account, account}
+use Rattle.service.specs.Account.{Account, account}
 use Rattle.service.specs.Served.{answer, ticked, counted, Answers, Served, no_call, one_more}
-use Rattle.service.specs.Guarantee.{Even, AllEven, FigureOf, Tells, a_refusal, admission, plan_told, outcome_told, counts_told, figure_told, Newest, Guarantee, Always, Holds, ToldBy, Service}
+use Rattle.service.specs.Guarantee.{Even, FigureOf, Tells, a_refusal, admission, plan_told, outcome_told, counts_told, figure_told, Newest, Guarantee, Always, Holds, ToldBy, Service}
 use Rattle.service.proofs.Jobs.{due_busy, busy_open, heard_busy}
 use Rattle.service.proofs.Lines.{at_place, some_line}
 use Rattle.service.proofs.Carried.{Carried, seen, carried}

@@ -1,5 +1,5 @@
 -- Twins from what the question tests.
-use Rattle.std.proofs.Common.{◌≡◌, ℕ, ◌^◌, ◌<◌, sym, ap, ◌∙◌, subst, arith}
+use Rattle.std.proofs.Common.{◌≡◌, ℕ, ◌^◌, ◌<◌, sym, ap, ◌∙◌, subst}
 use Rattle.words.specs.Bits.{bit, ones}
 use Rattle.words.specs.Turns.{turned_bit, Turned}
 use Rattle.tasks.specs.declared.job.Version.{Version}

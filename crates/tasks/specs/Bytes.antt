@@ -1,5 +1,5 @@
 -- Bytes that a name is made of.
-use Rattle.std.specs.Prelude.{ℕ, Bool, true, false, ◌&&◌, ◌||◌, List, [], ◌∷◌, length, ◌==◌, nat_le}
+use Rattle.std.specs.Prelude.{ℕ, Bool, true, ◌&&◌, ◌||◌, List, [], ◌∷◌, length, ◌==◌, nat_le}
 
 -- each byte passes the test
 abbrev pub every : (ℕ → Bool) → List ℕ → Bool

@@ -1,5 +1,5 @@
 -- The first broken rule of lists that follow one another.
-use Rattle.std.proofs.Common.{◌≡◌, ℕ, Bool, true, false, cond, List, [], ◌∷◌, ◌++◌, Some, None, Option, sym, refl, ap, ◌∙◌, arith}
+use Rattle.std.proofs.Common.{◌≡◌, ℕ, Bool, true, false, cond, List, [], ◌∷◌, ◌++◌, Some, None, Option, refl, ◌∙◌, arith}
 use Rattle.tasks.specs.declared.refusal.Refusal.{Refusal}
 use Rattle.text.specs.Rules.{Rule, first_broken}
 

@@ -1,6 +1,6 @@
 -- What a reading answers, as a law of tables written out.
-use Rattle.std.proofs.Common.{◌≡◌, ℕ, List, Ok, Err, Result, sym, ◌∙◌, arith}
-use Rattle.tasks.specs.Rows.{Row, rows_of}
+use Rattle.std.proofs.Common.{◌≡◌, ℕ, List, Ok, Err, Result, arith}
+use Rattle.tasks.specs.Rows.{rows_of}
 use Rattle.tasks.specs.declared.refusal.Refusal.{Refusal}
 use Rattle.tasks.specs.declared.table.Table.{Table}
 use Rattle.text.specs.Reading.{reading, Reads}

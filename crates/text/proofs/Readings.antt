@@ -1,5 +1,5 @@
 -- A text that keeps the rules of a text is read line by line.
-use Rattle.std.proofs.Common.{◌≡◌, ℕ, ◌<◌, ◌≤◌, Bool, true, false, cond, ◌&&◌, eqb, leb, List, [], length, is_err, Some, None, Ok, Err, Result, sym, refl, ap, ◌∙◌, ⊎_elim, arith, MatchResult}
+use Rattle.std.proofs.Common.{◌≡◌, ℕ, ◌<◌, ◌≤◌, Bool, true, false, cond, ◌&&◌, eqb, leb, List, [], length, is_err, Some, None, Ok, Err, Result, refl, ap, ◌∙◌, ⊎_elim, arith, MatchResult}
 use Rattle.std.proofs.lemmas.Bool.{le-leb, eqb-true, false≢true, true≢false, cases_lt}
 use Rattle.tasks.specs.Rows.{rows_of}
 use Rattle.tasks.specs.Tables.{lines_of}

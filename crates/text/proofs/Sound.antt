@@ -1,5 +1,5 @@
 -- A text that is read is its rows, written out.
-use Rattle.std.proofs.Common.{◌≡◌, ℕ, ◌+◌, ◌≤◌, Bool, true, false, cond, List, [], ◌∷◌, ◌++◌, length, Some, None, Ok, Err, decimal, Option, Result, sym, refl, ap, ◌∙◌, subst, append_assoc, append-nil, arith}
+use Rattle.std.proofs.Common.{◌≡◌, ℕ, ◌≤◌, List, [], ◌∷◌, ◌++◌, length, Some, None, Ok, Err, Option, Result, sym, refl, ap, ◌∙◌, subst, append_assoc, append-nil, arith}
 use lib.ListN.{length-map}
 use Rattle.std.proofs.lemmas.Bool.{leb-true, eqb-true}
 use Rattle.tasks.specs.Rows.{Row, row_of, rows_of}
@@ -8,7 +8,7 @@ use Rattle.tasks.specs.declared.refusal.Refusal.{Refusal}
 use Rattle.tasks.specs.declared.table.Table.{Table}
 use Rattle.text.specs.Cuts.{Placed, lines_in, fields_in}
 use Rattle.text.specs.Rules.{first_broken, num, text_rules, line_rules}
-use Rattle.text.specs.Reading.{unless, and_then, row_said, with_fields, with_line, with_lines, reading}
+use Rattle.text.specs.Reading.{unless, and_then, row_said, with_line, with_lines, reading}
 use Rattle.text.specs.Law.{with_commas, LineOf, Writes, IsTextOf}
 use Rattle.text.proofs.Broken.{AllKept, all_kept}
 use Rattle.text.proofs.Joining.{between, fed, between_parted, fed_ended, fed_some}

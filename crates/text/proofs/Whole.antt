@@ -1,7 +1,6 @@
 -- A table that is written out is read.
-use Rattle.std.proofs.Common.{◌≡◌, ℕ, ◌+◌, ◌^◌, ◌<◌, ◌≤◌, Bool, true, false, List, [], ◌∷◌, ◌++◌, map, length, Some, None, Ok, Err, decimal, sym, refl, ap, ◌∙◌, subst, append_assoc, append-nil, arith}
+use Rattle.std.proofs.Common.{◌≡◌, ℕ, ◌+◌, ◌<◌, ◌≤◌, true, List, [], ◌∷◌, ◌++◌, map, length, None, Ok, decimal, sym, refl, ap, ◌∙◌, subst, append_assoc, append-nil, arith}
 use lib.ListN.{length-map}
-use Rattle.std.proofs.lemmas.List.{length_push}
 use Rattle.std.proofs.lemmas.Bool.{le-leb, lt-ltb, eq-eqb}
 use Rattle.tasks.specs.Rows.{Row, row_of, rows_of}
 use Rattle.tasks.specs.Spelled.{technique_word}
@@ -9,12 +8,12 @@ use Rattle.tasks.specs.Named.{name_bytes}
 use Rattle.tasks.specs.Tables.{lines_of, Used, last_period}
 use Rattle.tasks.specs.declared.line.Line.{Line}
 use Rattle.tasks.specs.declared.table.Table.{Table}
-use Rattle.text.specs.Cuts.{Placed, placed, ended, count, last_byte, lines_in, fields_in}
+use Rattle.text.specs.Cuts.{placed, ended, count, last_byte, fields_in}
 use Rattle.text.specs.Rules.{first_broken, head_rules, time_rules}
 use Rattle.text.specs.Reading.{and_then, row_said, with_line, with_lines, reading}
 use Rattle.text.specs.Forms.{is_technique}
 use Rattle.text.specs.Values.{technique_of, number_of}
-use Rattle.text.specs.Law.{with_commas, line_text, LineOf, Writes, IsTextOf}
+use Rattle.text.specs.Law.{LineOf, Writes, IsTextOf}
 use Rattle.text.proofs.Broken.{none_broken}
 use Rattle.text.proofs.Growth.{Fit, table_fits}
 use Rattle.text.proofs.Joining.{parts_of, AllLack, parted_commas, commas_lack, joined, last_append, last_more}

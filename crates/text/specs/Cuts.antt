@@ -1,5 +1,5 @@
 -- Bytes of a text with their place, cut at a mark into parts.
-use Rattle.std.specs.Prelude.{ℕ, suc, ◌+◌, Bool, true, false, cond, List, [], ◌∷◌, ◌==◌}
+use Rattle.std.specs.Prelude.{ℕ, suc, ◌+◌, cond, List, [], ◌∷◌, ◌==◌}
 
 -- bytes of a text, and the place of the first
 pub record Placed : Type 0 where

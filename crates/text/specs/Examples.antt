@@ -1,11 +1,11 @@
 -- Worked examples of readings, computed.
-use Rattle.std.specs.Prelude.{◌≡◌, ℕ, zero, suc, List, [], ◌∷◌, ◌++◌, map, replicate, Ok, Err, codes, Result, refl}
+use Rattle.std.specs.Prelude.{◌≡◌, ℕ, zero, suc, List, [], ◌∷◌, ◌++◌, map, Ok, Err, codes, Result, refl}
 use Rattle.words.specs.Sums.{sum_below}
 use Rattle.words.specs.Bits.{word_of}
 use Rattle.tasks.specs.Refused.{told, told_number}
 use Rattle.tasks.specs.Rows.{Row}
 use Rattle.tasks.specs.declared.refusal.Refusal.{Refusal}
-use Rattle.tasks.specs.declared.technique.Technique.TheVariants.{Fr, Sre, Ddr}
+use Rattle.tasks.specs.declared.technique.Technique.TheVariants.{Sre}
 use Rattle.text.specs.Cuts.{Placed}
 use Rattle.text.specs.Rules.{Rule, line_rules}
 use Rattle.text.specs.Reading.{reading}

@@ -1,5 +1,5 @@
 -- What fields stand for.
-use Rattle.std.specs.Prelude.{ℕ, ◌+◌, ◌-◌, ◌*◌, Bool, true, false, cond, ◌&&◌, ◌||◌, List, [], ◌∷◌, length, ◌==◌}
+use Rattle.std.specs.Prelude.{ℕ, ◌+◌, ◌-◌, ◌*◌, Bool, cond, ◌&&◌, ◌||◌, List, [], ◌∷◌, length, ◌==◌}
 use Rattle.std.specs.Str.{bytes_eq}
 use Rattle.words.specs.Patterns.{pattern_word}
 use Rattle.words.specs.declared.patterns.Pattern.TheVariants as pattern

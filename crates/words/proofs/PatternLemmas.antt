@@ -1,8 +1,7 @@
 -- The R and the E pattern have just m ones.
-use Rattle.std.proofs.Common.{◌≡◌, ℕ, zero, suc, ◌+◌, ◌-◌, ◌*◌, ◌/◌, ◌%◌, ◌^◌, ◌<◌, ◌≤◌, Bool, true, false, cond, eqb, ltb, ◌⊎◌, sym, refl, ap, ◌∙◌, subst, ⊎_elim, mul-le-mul_right, mod-lt, suc-mul, mul_comm, div-add-mod', arith}
+use Rattle.std.proofs.Common.{◌≡◌, ℕ, zero, suc, ◌+◌, ◌-◌, ◌*◌, ◌/◌, ◌<◌, ◌≤◌, true, false, cond, eqb, ltb, refl, ap, ◌∙◌, ⊎_elim, mul-le-mul_right, mod-lt, suc-mul, mul_comm, div-add-mod', arith}
 use Rattle.std.proofs.lemmas.Bool.{cases_lt, cases_Bool, cond_both, ltb-true, ltb-false, eqb-true, eqb-false}
 use Rattle.words.specs.Sums.{sum_below}
-use Rattle.words.specs.Bits.{bit, ones, word_of}
 use Rattle.words.specs.Patterns.{up, e_zero, pattern_bit, pattern_word, Window, Follows}
 use Rattle.words.specs.declared.patterns.Pattern.{Pattern}
 use Rattle.words.specs.declared.patterns.Pattern.TheVariants.{R, E}

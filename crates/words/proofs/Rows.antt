@@ -1,9 +1,9 @@
 -- Lemmas on rows of places that go round, and on the greatest of them.
-use Rattle.std.proofs.Common.{◌≡◌, ℕ, zero, suc, ◌+◌, ◌-◌, ◌*◌, ◌/◌, ◌%◌, ◌<◌, ◌≤◌, max, ◌⊎◌, sym, refl, ap, ◌∙◌, ⊎_elim, add-zero, mod-lt, mod-eq_of_lt, suc-mul, div-add-mod', zero-add, add-one, arith}
+use Rattle.std.proofs.Common.{◌≡◌, ℕ, zero, suc, ◌+◌, ◌-◌, ◌*◌, ◌/◌, ◌%◌, ◌<◌, ◌≤◌, max, sym, refl, ap, ◌∙◌, ⊎_elim, add-zero, mod-lt, mod-eq_of_lt, suc-mul, div-add-mod', zero-add, add-one, arith}
 use native.Mathlib.Nat.{add-mod_right, mod-mod}
 use Rattle.std.proofs.lemmas.Bool.{cases_lt}
 use Rattle.words.specs.Sums.{sum_below, greatest_below, row, greatest_row, GreatestRow}
-use Rattle.words.proofs.Sums.{sum_cong, row_none, row_start, row_split, row_front, row_round}
+use Rattle.words.proofs.Sums.{row_none, row_start, row_split, row_round}
 
 pub sum_bound : (f : ℕ → ℕ) (b : ℕ) → ((x : ℕ) → f x ≤ b) → (n : ℕ) → sum_below f n ≤ n * b
 unfolding sum_below

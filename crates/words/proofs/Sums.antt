@@ -1,6 +1,6 @@
 -- Lemmas on sums below a number, and on rows that go round.
-use Rattle.std.proofs.Common.{◌≡◌, ℕ, zero, suc, ◌+◌, ◌-◌, ◌*◌, ◌/◌, ◌%◌, ◌<◌, ◌≤◌, ◌⊎◌, sym, refl, ap, ◌∙◌, inl, inr, ⊎_elim, add-zero, add_assoc, add-suc, mod-eq_of_lt, add_comm, zero-add, add-one, arith}
-use native.Mathlib.Nat.{mod-add-mod, add-mod_right, mod-mod}
+use Rattle.std.proofs.Common.{◌≡◌, ℕ, zero, suc, ◌+◌, ◌-◌, ◌%◌, ◌<◌, ◌≤◌, sym, refl, ap, ◌∙◌, ⊎_elim, add-zero, add_assoc, add-suc, mod-eq_of_lt, add_comm, zero-add, add-one, arith}
+use native.Mathlib.Nat.{mod-add-mod, add-mod_right}
 use Rattle.std.proofs.lemmas.Bool.{cases_lt}
 use Rattle.words.specs.Sums.{sum_below, row}
 

@@ -1,10 +1,10 @@
 -- The turn that rearranges a word.
-use Rattle.std.proofs.Common.{◌≡◌, ℕ, zero, suc, ◌+◌, ◌-◌, ◌%◌, ◌<◌, ◌≤◌, Bool, true, false, eqb, ◌⊎◌, sym, refl, ap, ◌∙◌, ⊎_elim, mod-lt, mod-eq_of_lt, arith}
+use Rattle.std.proofs.Common.{◌≡◌, ℕ, zero, suc, ◌+◌, ◌-◌, ◌%◌, ◌<◌, ◌≤◌, true, false, eqb, sym, ap, ◌∙◌, ⊎_elim, mod-lt, mod-eq_of_lt, arith}
 use native.Mathlib.Nat.{mod-add-mod, add-mod-mod, mod_self}
 use Rattle.std.proofs.lemmas.Bool.{cases_lt, cases_Bool, both_ways, and_parts, and_cases, and_left, and_right, and_from, eqb-true, eqb-false, eq-eqb, ne_eqb}
-use Rattle.words.specs.Sums.{sum_below, row}
+use Rattle.words.specs.Sums.{row}
 use Rattle.words.specs.Bits.{bit, ones, word_of}
-use Rattle.words.specs.Turns.{before, falls_at, first_from, turn_of, Rearranges, turned_bit, Turned}
+use Rattle.words.specs.Turns.{before, falls_at, turn_of, Rearranges, turned_bit, Turned}
 use Rattle.words.proofs.Sums.{row_round, sum_above, sum_some, zeros_and_ones, sum_of_ones, sum_turned}
 use Rattle.words.proofs.Words.{word_bit, word_ones, word_narrow}
 use Rattle.words.proofs.Searches.{first_passes, first_least, first_missing, first_within}

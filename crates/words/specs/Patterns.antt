@@ -1,5 +1,5 @@
 -- The R and the E pattern: words told by m and k alone.
-use Rattle.std.specs.Prelude.{◌≡◌, ℕ, ◌+◌, ◌-◌, ◌*◌, ◌/◌, ◌^◌, ◌<◌, ◌≤◌, Bool, true, false, cond, ◌==◌, nat_lt}
+use Rattle.std.specs.Prelude.{◌≡◌, ℕ, ◌+◌, ◌-◌, ◌*◌, ◌/◌, ◌^◌, ◌<◌, ◌≤◌, Bool, cond, ◌==◌, nat_lt}
 use Rattle.words.specs.declared.patterns.Pattern.{Pattern}
 use Rattle.words.specs.declared.patterns.Pattern.TheVariants.{R, E}
 use Rattle.words.specs.Bits.{bit, ones, word_of}

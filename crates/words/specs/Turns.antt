@@ -1,5 +1,5 @@
 -- A word turned left, going round its k bits, and the turn that rearranges it.
-use Rattle.std.specs.Prelude.{◌≡◌, ℕ, zero, suc, ◌+◌, ◌-◌, ◌%◌, ◌^◌, ◌<◌, Bool, true, false, cond, ◌&&◌, ◌==◌, ◌≢◌}
+use Rattle.std.specs.Prelude.{◌≡◌, ℕ, zero, suc, ◌+◌, ◌-◌, ◌%◌, ◌^◌, ◌<◌, Bool, cond, ◌&&◌, ◌==◌, ◌≢◌}
 use Rattle.words.specs.Bits.{bit, ones}
 
 -- bit j of the word of k bits that is w turned left by s places

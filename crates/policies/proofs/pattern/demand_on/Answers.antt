@@ -1,4 +1,4 @@
-use Rattle.std.proofs.Common.{◌≡◌, ℕ, ◌+◌, ◌*◌, ◌/◌, ◌<◌, sym, ap, ◌∙◌, subst, arith}
+use Rattle.std.proofs.Common.{◌≡◌, ◌+◌, ◌*◌, ◌/◌, ◌<◌, sym, ap, ◌∙◌, subst, arith}
 use Rattle.words.specs.Sums.{greatest_row, GreatestRow}
 use Rattle.words.proofs.Rows.{greatest_row_whole, is_greatest_row}
 use Rattle.policies.specs.Endings.{worst}

@@ -1,4 +1,4 @@
-use Rattle.std.proofs.Common.{◌≡◌, ◌+◌, ◌%◌, true, cond, sym, ap, ◌∙◌}
+use Rattle.std.proofs.Common.{◌+◌, ◌%◌, cond, sym, ap, ◌∙◌}
 use native.Mathlib.Nat.{mod-add-mod}
 use Rattle.policies.specs.Patterns.{moves, pattern_plan}
 use Rattle.policies.specs.RunLemmas.{moves_allowed}

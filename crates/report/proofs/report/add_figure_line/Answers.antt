@@ -1,4 +1,4 @@
-use Rattle.std.proofs.Common.{◌≡◌, ℕ, List, [], ◌∷◌, ◌++◌, vec_items, string_bytes, decimal, ap, ◌∙◌, append_assoc, rules}
+use Rattle.std.proofs.Common.{◌≡◌, ℕ, List, [], ◌∷◌, ◌++◌, vec_items, decimal, ap, ◌∙◌, append_assoc, rules}
 use Rattle.tasks.specs.Named.{name_bytes}
 use Rattle.report.proofs.report.add_figure_line.Goals as goal
 

@@ -1,4 +1,4 @@
-use Rattle.std.proofs.Common.{◌≡◌, ◌<◌, List, length, get_or, sym, ap, ◌∙◌, subst, arith}
+use Rattle.std.proofs.Common.{◌≡◌, ◌<◌, List, length, get_or, ap, ◌∙◌, arith}
 use Rattle.tasks.specs.declared.line.Line.{Line}
 use Rattle.tasks.specs.Tables.{lines_of}
 use Rattle.report.proofs.Lines.{figure_more, figure_all}

@@ -1,6 +1,6 @@
-use Rattle.std.proofs.Common.{◌≡◌, ℕ, ◌+◌, ◌<◌, ◌≤◌, sym, ⊎_elim, arith}
+use Rattle.std.proofs.Common.{◌<◌, ◌≤◌, ⊎_elim, arith}
 use Rattle.std.proofs.lemmas.Bool.{cases_lt}
-use Rattle.response.specs.Figures.{load_above, smallest, none}
+use Rattle.response.specs.Figures.{smallest, none}
 use Rattle.response.proofs.Loads.{load_rises}
 use Rattle.response.proofs.Places.{told_none}
 use Rattle.response.proofs.figures.figure.Goals as goal

@@ -1,7 +1,6 @@
-use Rattle.std.proofs.Common.{◌≡◌, ℕ, ◌≤◌, Bool, true, false, eqb, List, length, replicate, Ok, Err, Result, sym, ◌∙◌, subst, arith}
-use Rattle.std.proofs.lemmas.Bool.{eqb-true, eqb-false}
+use Rattle.std.proofs.Common.{List, length, replicate, Ok, Err, sym, ◌∙◌, subst}
+use Rattle.std.proofs.lemmas.Bool.{eqb-true}
 use Rattle.tasks.specs.declared.line.Line.{Line}
-use Rattle.tasks.specs.declared.refusal.Refusal.{Refusal}
 use Rattle.tasks.specs.declared.refusal.Refusal.TheVariants.{Declined, NoLines}
 use Rattle.response.specs.Figures.{Answered, worked_out, no_lines, declined}
 use Rattle.response.proofs.Places.{cleared, some_lines}

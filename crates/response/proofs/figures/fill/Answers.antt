@@ -1,6 +1,5 @@
-use Rattle.std.proofs.Common.{◌≡◌, ℕ, ◌-◌, true, length, take, sym, ap, ◌∙◌, subst, arith}
+use Rattle.std.proofs.Common.{◌≡◌, ℕ, ◌-◌, length, take, ap, ◌∙◌, subst, arith}
 use Rattle.std.proofs.lemmas.List.{length-take, get_or-take}
-use Rattle.tasks.specs.declared.line.Line.{Line}
 use Rattle.response.specs.Figures.{Figure, Figures}
 use Rattle.response.proofs.Places.{figures_none, figures_more}
 use Rattle.response.proofs.figures.fill.Goals as goal

@@ -1,4 +1,4 @@
-use Rattle.std.proofs.Common.{◌≡◌, [], sym, subst}
+use Rattle.std.proofs.Common.{[], sym, subst}
 use Rattle.policies.specs.Promises.{Meaning}
 use Rattle.policies.specs.Means.{meaning}
 use Rattle.policies.proofs.Promised.{promised}

@@ -1,12 +1,10 @@
 use Rattle.std.proofs.Common.{◌≡◌, ◌+◌, ◌<◌, List, [], ◌∷◌, reverse, length, get_or, take, set, sym, refl, ap, ◌∙◌, subst, arith}
 use lib.Seq.{map-set_same}
-use Rattle.std.proofs.lemmas.List.{take_all, take_more_set, reverse-append, get_or_default}
-use Rattle.policies.specs.Promises.{Meaning}
+use Rattle.std.proofs.lemmas.List.{take_all, take_more_set, reverse-append}
 use Rattle.policies.specs.Means.{meaning}
-use Rattle.engine.specs.Status.{Status, status_of}
-use Rattle.service.specs.declared.log.Call.{Call}
+use Rattle.engine.specs.Status.{status_of}
 use Rattle.service.specs.declared.log.Entry.{Entry}
-use Rattle.service.specs.Served.{calls, Served}
+use Rattle.service.specs.Served.{Served}
 use Rattle.service.specs.Guarantee.{Service}
 use Rattle.service.proofs.replay.replay.Goals as goal
 

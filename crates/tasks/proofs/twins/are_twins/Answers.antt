@@ -1,7 +1,6 @@
-use Rattle.std.proofs.Common.{◌≡◌, refl, rules}
+use Rattle.std.proofs.Common.{◌≡◌, rules}
 use Rattle.std.proofs.lemmas.Bool.{false≢true}
 use Rattle.tasks.specs.declared.job.Version.TheVariants.{Bare, Detect, Correct}
-use Rattle.tasks.specs.declared.line.Times.{Times}
 use Rattle.tasks.proofs.TwinLemmas.{word_turned, times_agree}
 use Rattle.tasks.proofs.twins.are_twins.Goals as goal
 

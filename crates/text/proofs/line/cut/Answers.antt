@@ -1,4 +1,4 @@
-use Rattle.std.proofs.Common.{◌≡◌, ◌+◌, ◌≤◌, length, arith, rules}
+use Rattle.std.proofs.Common.{◌≡◌, ◌≤◌, length, arith, rules}
 use Rattle.text.proofs.Cutting.{cut_marked, cut_unmarked}
 use Rattle.text.proofs.line.cut.Goals as goal
 

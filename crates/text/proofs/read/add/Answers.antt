@@ -1,7 +1,7 @@
-use Rattle.std.proofs.Common.{◌≡◌, ℕ, ◌+◌, ◌<◌, ◌≤◌, List, map, length, Ok, Err, sym, refl, ap, ◌∙◌, arith, rules}
+use Rattle.std.proofs.Common.{◌≡◌, ◌+◌, List, map, length, Ok, Err, sym, refl, ap, ◌∙◌, arith, rules}
 use lib.ListN.{length-map}
 use Rattle.std.proofs.lemmas.Result.{err_from_is_err_and}
-use Rattle.tasks.specs.Rows.{row_of, rows_of}
+use Rattle.tasks.specs.Rows.{row_of}
 use Rattle.tasks.specs.Tables.{lines_of, Pushed}
 use Rattle.tasks.specs.declared.line.Line.{Line}
 use Rattle.tasks.specs.declared.tables.Unfit.TheVariants.{NameUsed, PeriodFalls}

@@ -1,4 +1,4 @@
-use Rattle.std.proofs.Common.{◌≡◌, eqb, leb, length, sym}
+use Rattle.std.proofs.Common.{eqb, leb, length, sym}
 use Rattle.std.proofs.lemmas.Bool.{and_parts, leb-true}
 use Rattle.text.specs.Cuts.{last_byte}
 use Rattle.text.proofs.Readings.{loaded, refused_text}

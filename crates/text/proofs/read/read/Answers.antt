@@ -1,5 +1,4 @@
-use Rattle.std.proofs.Common.{◌≡◌, [], sym, rules}
-use Rattle.tasks.specs.Tables.{lines_of}
+use Rattle.std.proofs.Common.{sym, rules}
 use Rattle.text.proofs.Laws.{accepts}
 use Rattle.text.proofs.Readings.{cleared, filled}
 use Rattle.text.proofs.read.read.Goals as goal

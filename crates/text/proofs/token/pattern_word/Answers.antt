@@ -1,4 +1,4 @@
-use Rattle.std.proofs.Common.{◌≡◌, ℕ, ◌^◌, ◌<◌, true, length, sym, ap, ◌∙◌, subst, arith, rules}
+use Rattle.std.proofs.Common.{◌≡◌, ℕ, ◌^◌, ◌<◌, true, length, sym, ◌∙◌, subst, rules}
 use Rattle.words.specs.Bits.{ones}
 use Rattle.tasks.specs.Bytes.{every}
 use Rattle.text.specs.Forms.{binary}

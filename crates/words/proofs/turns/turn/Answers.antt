@@ -1,4 +1,4 @@
-use Rattle.std.proofs.Common.{◌≡◌, ℕ, ◌-◌, ◌<◌, sym, refl, ap, ◌∙◌, subst, arith}
+use Rattle.std.proofs.Common.{◌≡◌, ℕ, ◌-◌, sym, ap, ◌∙◌, subst, arith}
 use Rattle.words.specs.Turns.{first_from, falls_at, turn_of, Rearranges}
 use Rattle.words.proofs.TurnLemmas.{turn_rearranges}
 use Rattle.words.proofs.Searches.{first_hit, first_miss, first_none}

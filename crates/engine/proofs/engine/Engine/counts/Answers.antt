@@ -1,4 +1,4 @@
-use Rattle.std.proofs.Common.{◌≡◌, Ok, sym, refl, ap, arith}
+use Rattle.std.proofs.Common.{Ok, sym, refl, ap, arith}
 use Rattle.std.proofs.lemmas.Result.{err_from_is_err_and}
 use Rattle.engine.specs.declared.state.Task.{Task}
 use Rattle.engine.specs.Steps.{of_line}

@@ -1,4 +1,4 @@
-use Rattle.std.proofs.Common.{◌≡◌, Ok, Err, sym, refl, subst, arith}
+use Rattle.std.proofs.Common.{Ok, Err, sym, refl, subst, arith}
 use Rattle.std.proofs.lemmas.Result.{err_from_is_err_and}
 use Rattle.tasks.specs.Tables.{lines_of}
 use Rattle.policies.specs.Promises.{Meaning}

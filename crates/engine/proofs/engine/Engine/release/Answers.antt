@@ -1,14 +1,11 @@
-use Rattle.std.proofs.Common.{◌≡◌, ◌-◌, ◌<◌, length, get_or, sym, refl, ap, subst, arith, rules}
+use Rattle.std.proofs.Common.{◌-◌, get_or, refl, arith, rules}
 use Rattle.std.proofs.lemmas.Result.{err_from_is_err_and}
 use Rattle.std.proofs.lemmas.Bool.{both_ways}
-use Rattle.tasks.specs.declared.line.Line.{Line}
 use Rattle.policies.specs.Promises.{Meaning}
 use Rattle.policies.specs.Means.{meaning}
-use Rattle.engine.specs.declared.state.OpenJob.{OpenJob}
 use Rattle.engine.specs.declared.state.Job.TheVariants.{Open}
 use Rattle.engine.specs.Jobs.{unused, released}
 use Rattle.engine.specs.Kept.{Fair}
-use Rattle.engine.specs.Steps.{Rested}
 use Rattle.engine.proofs.Tasks.{each_set}
 use Rattle.engine.proofs.Found.{found, refused, few_lines}
 use Rattle.engine.proofs.Releases.{too_early, job_open, accepted, released_fair}

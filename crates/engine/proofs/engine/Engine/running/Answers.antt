@@ -1,4 +1,4 @@
-use Rattle.std.proofs.Common.{◌≡◌, ℕ, ◌-◌, List, length, get_or, sym, ap, ◌∙◌, subst, arith}
+use Rattle.std.proofs.Common.{◌≡◌, ◌-◌, List, length, get_or, ap, subst, arith}
 use Rattle.tasks.specs.declared.line.Line.{Line}
 use Rattle.tasks.specs.Tables.{lines_of}
 use Rattle.engine.proofs.Ticks.{all_quiet, first_turn}

@@ -1,8 +1,8 @@
-use Rattle.std.proofs.Common.{◌≡◌, ℕ, ◌+◌, ◌<◌, ◌≤◌, length, get_or, Some, sym, refl, ap, ◌∙◌, subst, arith, rules}
+use Rattle.std.proofs.Common.{◌≡◌, ◌+◌, ◌<◌, get_or, sym, refl, arith, rules}
 use Rattle.tasks.specs.Tables.{lines_of}
 use Rattle.policies.specs.Promises.{Meaning}
 use Rattle.policies.specs.Means.{meaning}
-use Rattle.engine.specs.Jobs.{unused, heard, running_after, task_after}
+use Rattle.engine.specs.Jobs.{unused, task_after}
 use Rattle.engine.specs.Kept.{Fair}
 use Rattle.engine.specs.Steps.{unopened, spent, ticks, idles, no_job, unheard}
 use Rattle.engine.proofs.Tasks.{each_set}

@@ -1,4 +1,4 @@
-use Rattle.std.proofs.Common.{◌≡◌, ◌<◌, ◌≤◌, length, take, refl, ap, arith, rules}
+use Rattle.std.proofs.Common.{◌<◌, length, refl, ap, arith, rules}
 use Rattle.std.proofs.lemmas.List.{take_more_set}
 use Rattle.std.proofs.lemmas.Bool.Decides.{not_from_Decides}
 use Rattle.tasks.proofs.Growing.{rising_more, apart_more}

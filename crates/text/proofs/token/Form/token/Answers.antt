@@ -1,4 +1,4 @@
-use Rattle.std.proofs.Common.{◌≡◌, Bool, true, false, is_some, Some, None, Option, MatchOption}
+use Rattle.std.proofs.Common.{◌≡◌, false, is_some, Some, None, Option, MatchOption}
 use Rattle.std.proofs.lemmas.Bool.{false≢true}
 use Rattle.text.proofs.Techniques.{unnamed}
 use Rattle.text.proofs.token.Form.token.Goals as goal
