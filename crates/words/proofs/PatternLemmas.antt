@@ -1,12 +1,15 @@
 -- The R and the E pattern have just m ones.
-use Rattle.std.proofs.Common.{◌≡◌, ℕ, zero, suc, ◌+◌, ◌-◌, ◌*◌, ◌/◌, ◌<◌, ◌≤◌, true, false, cond, eqb, ltb, refl, ap, ◌∙◌, ⊎_elim, mul-le-mul_right, mod-lt, suc-mul, mul_comm, div-add-mod', arith}
+use Rattle.std.proofs.Common.{◌≡◌, ℕ, zero, suc, ◌+◌, ◌-◌, ◌*◌, ◌/◌, ◌^◌, ◌<◌, ◌≤◌, true, false, cond, eqb, ltb, ap, ◌∙◌, ⊎_elim, mul-le-mul_right, mod-lt, suc-mul, mul_comm, div-add-mod', arith}
 use Rattle.std.proofs.lemmas.Bool.{cases_lt, cases_Bool, cond_both, ltb-true, ltb-false, eqb-true, eqb-false}
+use Rattle.std.proofs.lemmas.Grind.{div_ceil_times}
+use Rattle.std.specs.Int.{div_ceil}
 use Rattle.words.specs.Sums.{sum_below}
-use Rattle.words.specs.Patterns.{up, e_zero, pattern_bit, pattern_word, Window, Follows}
+use Rattle.words.specs.Bits.{bit}
+use Rattle.words.specs.Patterns.{up, e_zero, pattern_bit, Window, Follows}
 use Rattle.words.specs.declared.patterns.Pattern.{Pattern}
 use Rattle.words.specs.declared.patterns.Pattern.TheVariants.{R, E}
-use Rattle.words.proofs.Sums.{sum_of_ones, sum_cong}
-use Rattle.words.proofs.Words.{word_narrow, word_bit, word_ones}
+use Rattle.words.proofs.Sums.{sum_of_ones, sum_cong, sum_cong_below}
+use Rattle.words.proofs.Words.{word_is}
 
 -- ---- R
 
@@ -30,6 +33,14 @@ up_low x k h = omega (arith, div-add-mod' (x + (k - 1)) k, mod-lt (x + (k - 1)) 
 
 up_high : (x k : ℕ) → 0 < k → up x k * k < x + k
 up_high x k h = omega (arith, div-add-mod' (x + (k - 1)) k)
+
+-- the library's rounding up is the same
+pub ceil_is_up : (x k : ℕ) → 0 < k → div_ceil x k ≡ up x k
+ceil_is_up x k h =
+    let a = div_ceil_times x k h in
+    let less : div_ceil x k ≤ up x k = times_within (div_ceil x k) (up x k) k (omega (arith, a.1, up_low x k h)) in
+    let more : up x k ≤ div_ceil x k = times_within (up x k) (div_ceil x k) k (omega (arith, a.0, up_high x k h)) in
+    omega arith
 
 -- a zero is counted
 step_zero : (q k n : ℕ) → 0 < q → q ≤ k → e_zero q k n ≡ true → up (suc n * q) k ≡ suc (up (n * q) k)
@@ -103,10 +114,10 @@ pattern_ones : (p : Pattern) (m k : ℕ) → Window m k → sum_below (pattern_b
 pattern_ones R m k window = omega (arith, r_count m k k, window)
 pattern_ones E m k window = e_ones m k window
 
-pub pattern_follows : (p : Pattern) (m k : ℕ) → Window m k → Follows p m k (pattern_word p m k)
-pattern_follows p m k window = record {
-  is = refl;
-  bits = word_bit (pattern_bit p m k) (pattern_small p m k) k;
-  reliable = word_ones (pattern_bit p m k) (pattern_small p m k) k ∙ pattern_ones p m k window;
-  narrow = word_narrow (pattern_bit p m k) (pattern_small p m k) k;
+pub pattern_follows : (p : Pattern) (m k v : ℕ) → Window m k → ((j : ℕ) → j < k → bit v j ≡ pattern_bit p m k j) → v < 2 ^ k → Follows p m k v
+pattern_follows p m k v window bits narrow = record {
+  is = word_is (pattern_bit p m k) k v narrow bits;
+  bits = bits;
+  reliable = sum_cong_below (bit v) (pattern_bit p m k) k bits ∙ pattern_ones p m k window;
+  narrow = narrow;
 }

@@ -1,33 +1,9 @@
 -- Lemmas on the first number that passes a test.
-use Rattle.std.proofs.Common.{◌≡◌, ℕ, zero, suc, ◌+◌, ◌-◌, ◌<◌, ◌≤◌, Bool, true, false, cond, sym, refl, ap, ◌∙◌, ⊎_elim, arith}
+use Rattle.std.proofs.Common.{◌≡◌, ℕ, zero, suc, ◌+◌, ◌<◌, ◌≤◌, Bool, true, false, cond, Option, Some, None, MatchOption, unwrap_or, sym, refl, ap, ◌∙◌, ⊎_elim, arith}
 use Rattle.std.proofs.lemmas.Bool.{cases_lt, cases_Bool, both_ways}
 use Rattle.words.specs.Turns.{first_from}
 
 module _ (p : ℕ → Bool) where
-  -- ---- a loop's turns
-
-  pub first_hit : (j n : ℕ) → p j ≡ true → 0 < n → first_from p j n ≡ j
-  unfolding first_from
-  first_hit j zero h a = omega arith
-  first_hit j (suc n) h a = ap (λ t. cond t j (first_from p (suc j) n)) h
-
-  pub first_none : (j : ℕ) → first_from p j 0 ≡ 0
-  unfolding first_from
-  first_none j = refl
-
-  first_next : (j n : ℕ) → p j ≡ false → first_from p j (suc n) ≡ first_from p (suc j) n
-  unfolding first_from
-  first_next j n h = ap (λ t. cond t j (first_from p (suc j) n)) h
-
-  pub first_miss : (k j : ℕ) → p j ≡ false → j < k → first_from p j (k - j) ≡ first_from p (j + 1) (k - (j + 1))
-  first_miss k j h a =
-      let e : k - j ≡ suc (k - (j + 1)) = omega arith in
-      let f : suc j ≡ j + 1 = omega arith in
-      ap (first_from p j) e ∙ first_next j (k - (j + 1)) h ∙ ap (λ i. first_from p i (k - (j + 1))) f
-
-module _ (p : ℕ → Bool) where
-  -- ---- what the first is
-
   -- where one passes, the first that does passes
   pub first_passes : (i j n : ℕ) → j ≤ i → i < j + n → p i ≡ true → p (first_from p j n) ≡ true
   unfolding first_from
@@ -76,3 +52,16 @@ module _ (p : ℕ → Bool) where
       (λ (t : p j ≡ true). omega (arith, ap (λ x. cond x j (first_from p (suc j) (suc n))) t))
       (λ (f : p j ≡ false). omega (arith, ap (λ x. cond x j (first_from p (suc j) (suc n))) f, first_within (suc j) (suc n) (omega arith)))
       (cases_Bool (p j))
+
+  -- the first that passes is the only number that passes with none before it
+  first_is : (i n : ℕ) → i < n → p i ≡ true → ((k : ℕ) → k < i → p k ≡ false) → first_from p 0 n ≡ i
+  first_is i n l t none =
+      let f = first_from p 0 n in
+      let not_before : f < i → ⊥ = λ b. both_ways (p f) (none f b) (first_passes i 0 n (omega arith) (omega arith) t) in
+      let not_after : i < f → ⊥ = λ a. both_ways (p i) (first_least i 0 n (omega arith) a) t in
+      ⊎_elim (λ (b : f < i). absurd (not_before b)) (λ (g : i ≤ f). ⊎_elim (λ (a : i < f). absurd (not_after a)) (λ (h : f ≤ i). omega arith) (cases_lt i f)) (cases_lt f i)
+
+  -- what a search of the numbers below n answers
+  pub found_first : (n : ℕ) (r : Option ℕ) → MatchOption r ((k : ℕ) → 0 ≤ k → k < n → p k ≡ false) (λ i. (0 ≤ i) × (i < n) × (p i ≡ true) × ((k : ℕ) → 0 ≤ k → k < i → p k ≡ false)) → unwrap_or r 0 ≡ first_from p 0 n
+  found_first n None h = sym (first_missing 0 n (λ i a b. h i a (omega arith)))
+  found_first n (Some i) h = sym (first_is i n h.1 h.2 (λ k b. h.3 k (omega arith) b))

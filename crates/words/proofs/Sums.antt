@@ -1,7 +1,9 @@
 -- Lemmas on sums below a number, and on rows that go round.
-use Rattle.std.proofs.Common.{◌≡◌, ℕ, zero, suc, ◌+◌, ◌-◌, ◌%◌, ◌<◌, ◌≤◌, sym, refl, ap, ◌∙◌, ⊎_elim, add-zero, add_assoc, add-suc, mod-eq_of_lt, add_comm, zero-add, add-one, arith}
+use Rattle.std.proofs.Common.{◌≡◌, ℕ, zero, suc, ◌+◌, ◌-◌, ◌%◌, ◌<◌, ◌≤◌, sym, refl, ap, ◌∙◌, ⊎_elim, add-zero, add_assoc, add-suc, mod-eq_of_lt, add_comm, zero-add, add-one, map, sum, arith}
 use native.Mathlib.Nat.{mod-add-mod, add-mod_right}
+use Rattle.std.specs.List.{range_with_len}
 use Rattle.std.proofs.lemmas.Bool.{cases_lt}
+use Rattle.std.proofs.lemmas.List.FromFn.{sum_by-map-range_with_len_more}
 use Rattle.words.specs.Sums.{sum_below, row}
 
 -- ---- sums
@@ -51,6 +53,14 @@ pub zeros_and_ones : (b : ℕ → ℕ) → ((x : ℕ) → b x ≤ 1) → (n : �
 unfolding sum_below
 zeros_and_ones b small zero = refl
 zeros_and_ones b small (suc n) = omega (arith, zeros_and_ones b small n, small n)
+
+-- the sum of what f makes of a range of numbers
+pub sum_range : (f : ℕ → ℕ) (n : ℕ) → sum (map f (range_with_len 0 n)) ≡ sum_below f n
+unfolding sum_below
+sum_range f zero = refl
+sum_range f (suc n) =
+    let e : suc n ≡ n + 1 = omega arith in
+    ap (λ k. sum (map f (range_with_len 0 k))) e ∙ sum_by-map-range_with_len_more (λ x. x) f 0 n n (omega arith) ∙ ap (λ s. s + f n) (sum_range f n)
 
 -- ---- rows: c is what a place counts, k how many places there are
 module _ (c : ℕ → ℕ) (k : ℕ) where

@@ -1,12 +1,11 @@
 -- The turn that rearranges a word.
-use Rattle.std.proofs.Common.{◌≡◌, ℕ, zero, suc, ◌+◌, ◌-◌, ◌%◌, ◌<◌, ◌≤◌, true, false, eqb, sym, ap, ◌∙◌, ⊎_elim, mod-lt, mod-eq_of_lt, arith}
+use Rattle.std.proofs.Common.{◌≡◌, ℕ, zero, suc, ◌+◌, ◌-◌, ◌%◌, ◌^◌, ◌<◌, ◌≤◌, true, false, eqb, sym, ap, ◌∙◌, ⊎_elim, mod-lt, mod-eq_of_lt, arith}
 use native.Mathlib.Nat.{mod-add-mod, add-mod-mod, mod_self}
 use Rattle.std.proofs.lemmas.Bool.{cases_lt, cases_Bool, both_ways, and_parts, and_cases, and_left, and_right, and_from, eqb-true, eqb-false, eq-eqb, ne_eqb}
 use Rattle.words.specs.Sums.{row}
-use Rattle.words.specs.Bits.{bit, ones, word_of}
+use Rattle.words.specs.Bits.{bit, ones}
 use Rattle.words.specs.Turns.{before, falls_at, turn_of, Rearranges, turned_bit, Turned}
-use Rattle.words.proofs.Sums.{row_round, sum_above, sum_some, zeros_and_ones, sum_of_ones, sum_turned}
-use Rattle.words.proofs.Words.{word_bit, word_ones, word_narrow}
+use Rattle.words.proofs.Sums.{row_round, sum_above, sum_some, zeros_and_ones, sum_of_ones, sum_cong_below, sum_turned}
 use Rattle.words.proofs.Searches.{first_passes, first_least, first_missing, first_within}
 
 -- the place before the next one is the place itself
@@ -81,22 +80,12 @@ turn_rearranges w k = record {
 
 -- ---- a word turned by s places
 
-pub turned_small : (w k s j : ℕ) → turned_bit w k s j ≤ 1
-turned_small w k s j = omega arith
-
-pub turned_word : (w k s : ℕ) → Turned w k s (word_of (turned_bit w k s) k)
-turned_word w k s =
-    let f = turned_bit w k s in
+-- by is s without its whole rounds
+pub turned_from : (w k s by v : ℕ) → by ≡ s % k → ((j : ℕ) → j < k → bit v j ≡ turned_bit w k by j) → v < 2 ^ k → Turned w k s v
+turned_from w k s by v e bits narrow =
+    let round : (j : ℕ) → turned_bit w k by j ≡ turned_bit w k s j = λ j. ap (λ t. turned_bit w k t j) e ∙ ap (bit w) (add-mod-mod j s k) in
     record {
-      bits = word_bit f (turned_small w k s) k;
-      reliable = word_ones f (turned_small w k s) k ∙ sum_turned (bit w) k s;
-      narrow = word_narrow f (turned_small w k s) k;
+      bits = λ j h. bits j h ∙ round j;
+      reliable = sum_cong_below (bit v) (turned_bit w k s) k (λ j h. bits j h ∙ round j) ∙ sum_turned (bit w) k s;
+      narrow = narrow;
     }
-
--- whole rounds of a turn do not count
-pub turned_round : (w k s v : ℕ) → Turned w k (s % k) v → Turned w k s v
-turned_round w k s v t = record {
-  bits = λ j h. t.bits j h ∙ ap (bit w) (add-mod-mod j s k);
-  reliable = t.reliable;
-  narrow = t.narrow;
-}

@@ -1,11 +1,9 @@
 -- Lemmas on the bits of a word, and on a word made bit by bit.
-use Rattle.std.proofs.Common.{◌≡◌, ℕ, zero, suc, ◌+◌, ◌-◌, ◌*◌, ◌/◌, ◌%◌, ◌^◌, ◌<◌, ◌≤◌, sym, refl, ap, ◌∙◌, ⊎_elim, mul-le-mul_right, mul_assoc, arith, pow_mono}
-use native.Mathlib.Nat.{pow-succ', div-eq_of_lt, add-mul-div_right, add-mul-mod_self_right}
-use Rattle.std.proofs.lemmas.Bool.{cases_lt}
+use Rattle.std.proofs.Common.{◌≡◌, ℕ, zero, suc, ◌+◌, ◌-◌, ◌*◌, ◌/◌, ◌%◌, ◌^◌, ◌<◌, ◌≤◌, sym, ap, ◌∙◌, mul-le-mul_right, mul_assoc, subst, below_more, mod-lt, mod-eq_of_lt, div-add-mod', arith, pow_mono}
+use native.Mathlib.Nat.{pow-succ', div-eq_of_lt, add-mul-div_right, add-mul-mod_self_right, div-lt_iff_lt-mul}
 use Rattle.std.proofs.lemmas.Nat.{pow_pos, pow-add}
 use Rattle.words.specs.Sums.{sum_below}
-use Rattle.words.specs.Bits.{bit, ones, word_of}
-use Rattle.words.proofs.Sums.{sum_more, sum_cong_below}
+use Rattle.words.specs.Bits.{bit, word_of}
 
 -- a word below 2 ^ n has no bit at n and above
 pub bit_past : (w n j : ℕ) → w < 2 ^ n → n ≤ j → bit w j ≡ 0
@@ -26,40 +24,37 @@ bit_low w n b j h =
     ap (λ y. b * 2 ^ y) e ∙ ap (λ y. b * y) (pow-add 2 (i + 1) j ∙ ap (λ y. y * 2 ^ j) (pow-add 2 i 1)) ∙ sym (mul_assoc b (2 ^ i * 2) (2 ^ j)) ∙ ap (λ y. y * 2 ^ j) (sym (mul_assoc b (2 ^ i) 2)) in
     ap (λ y. (w + y) / 2 ^ j % 2) p ∙ ap (λ y. y % 2) (add-mul-div_right w (x * 2) (pow_pos j)) ∙ add-mul-mod_self_right (w / 2 ^ j) x 2
 
+-- a word with one more bit above its n
+pub narrow_more : (w n b : ℕ) → w < 2 ^ n → b ≤ 1 → w + b * 2 ^ n < 2 ^ (n + 1)
+narrow_more w n b narrow small =
+    let e : n + 1 ≡ suc n = omega arith in
+    omega (arith, mul-le-mul_right (2 ^ n) small, pow-succ' 2 n, ap (λ k. 2 ^ k) e)
+
 -- one more bit fits a word of 64
-pub bit_fits : (w n b : ℕ) → n < 64 → w < 2 ^ n → b ≤ 1 → (b * 2 ^ n < 2 ^ 64) × (w + b * 2 ^ n < 2 ^ 64)
-bit_fits w n b h l s =
-    let m : suc n ≤ 64 = omega arith in
-    let p : 2 ^ suc n ≤ 2 ^ 64 = pow_mono m in
-    let t : b * 2 ^ n ≤ 1 * 2 ^ n = mul-le-mul_right (2 ^ n) s in
-    (omega (arith, pow-succ' 2 n), omega (arith, pow-succ' 2 n))
+pub bit_fits : (w n b : ℕ) → n < 64 → w < 2 ^ n → b ≤ 1 → b * 2 ^ n < 2 ^ 64
+bit_fits w n b h narrow small =
+    let m : n + 1 ≤ 64 = omega arith in
+    omega (arith, narrow_more w n b narrow small, pow_mono m)
 
-pub word_none : (f : ℕ → ℕ) → word_of f 0 ≡ 0
+-- a word that grows by a bit: what holds of its bits holds of those of the word with one more
+pub bits_more : (P : ℕ → ℕ → Type 0) (w n b : ℕ) → w < 2 ^ n → b ≤ 1 → ((j : ℕ) → j < n → P j (bit w j)) → P n b → (j : ℕ) → j < n + 1 → P j (bit (w + b * 2 ^ n) j)
+bits_more P w n b narrow small old new =
+    below_more
+    (λ j. P j (bit (w + b * 2 ^ n) j))
+    n
+    (λ j h. subst (P j) (sym (bit_low w n b j h)) (old j h))
+    (subst (P n) (sym (bit_high w n b narrow small)) new)
+
+-- a word below 2 ^ n is told by its first n bits
+pub word_is : (f : ℕ → ℕ) (n w : ℕ) → w < 2 ^ n → ((j : ℕ) → j < n → bit w j ≡ f j) → w ≡ word_of f n
 unfolding word_of sum_below
-word_none f = refl
-
-pub word_more : (f : ℕ → ℕ) (n : ℕ) → word_of f (n + 1) ≡ word_of f n + f n * 2 ^ n
-unfolding word_of
-word_more f n = sum_more (λ j. f j * 2 ^ j) n
-
-module _ (f : ℕ → ℕ) (small : (x : ℕ) → f x ≤ 1) where
-  pub word_narrow : (n : ℕ) → word_of f n < 2 ^ n
-  unfolding word_of sum_below
-  word_narrow zero = omega arith
-  word_narrow (suc n) = omega (arith, word_narrow n, mul-le-mul_right (2 ^ n) (small n), pow-succ' 2 n)
-
-  pub word_bit : (n j : ℕ) → j < n → bit (word_of f n) j ≡ f j
-  unfolding word_of sum_below
-  word_bit zero j h = omega arith
-  word_bit (suc n) j h =
-      ⊎_elim
-      (λ (l : j < n). bit_low (word_of f n) n (f n) j l ∙ word_bit n j l)
-      (λ (l : n ≤ j). let e : j ≡ n = omega arith in ap (bit (word_of f n + f n * 2 ^ n)) e ∙ bit_high (word_of f n) n (f n) (word_narrow n) (small n) ∙ ap f (sym e))
-      (cases_lt j n)
-
-  pub word_ones : (n : ℕ) → ones n (word_of f n) ≡ sum_below f n
-  word_ones n = sum_cong_below (bit (word_of f n)) f n (λ j h. word_bit n j h)
-
-  -- a loop's turn: the word so far, and one more bit
-  pub word_step : (w n b v : ℕ) → w ≡ word_of f n → b ≡ f n → v ≡ w + b * 2 ^ n → v ≡ word_of f (n + 1)
-  word_step w n b v e h s = omega (arith, word_more f n, e, s, ap (λ x. x * 2 ^ n) h)
+word_is f zero w narrow bits = omega arith
+word_is f (suc n) w narrow bits =
+    let b = bit w n in
+    let v = w % 2 ^ n in
+    let below : w < 2 * 2 ^ n = omega (arith, pow-succ' 2 n) in
+    let top : w / 2 ^ n < 2 = (div-lt_iff_lt-mul (pow_pos n)).1 below in
+    let one : b ≡ w / 2 ^ n = mod-eq_of_lt top in
+    let parts : w ≡ v + b * 2 ^ n = omega (arith, div-add-mod' w (2 ^ n), ap (λ x. x * 2 ^ n) one) in
+    let low : v ≡ word_of f n = word_is f n v (mod-lt w (pow_pos n)) (λ j h. sym (bit_low v n b j h) ∙ ap (λ x. bit x j) (sym parts) ∙ bits j (omega arith)) in
+    omega (arith, low, parts, ap (λ x. x * 2 ^ n) (bits n (omega arith)))

@@ -3,4 +3,5 @@
 
 pub mod bits;
 pub mod patterns;
+pub mod quota;
 pub mod turns;

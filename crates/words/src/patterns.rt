@@ -2,9 +2,10 @@
 ghost use Rattle.std.specs.Prelude.{◌≡◌, ℕ, ◌<◌, ◌≤◌, MatchOption};
 ghost use Rattle.words.specs.Patterns.{Window, pattern_bit, Follows};
 
-use crate::bits::with_bit;
+use crate::bits::word_of;
+use crate::quota::Quota;
 
-#[derive(Clone, Copy, PartialEq, Eq)]
+#[derive(Clone, Copy, PartialEq, Eq, Debug)]
 pub enum Pattern {
     // the ones last
     R,
@@ -12,42 +13,34 @@ pub enum Pattern {
     E,
 }
 
-fn pattern_bit(pattern: Pattern, m: u32, k: u32, place: u32) -> u64
-    requires { Window m k × (place < k) }
-    ensures { result ≡ pattern_bit pattern m k place }
-{
-    let zeros = k - m;
-    match pattern {
-        Pattern::R => { if place < zeros { 0 } else { 1 } }
-        Pattern::E => {
-            if zeros == 0 {
-                return 1;
-            }
-            let count = (place * zeros + (k - 1)) / k;
-            if place == count * k / zeros { 0 } else { 1 }
-        }
-    }
-}
-
-fn pattern_word(pattern: Pattern, m: u32, k: u32) -> u64
-    requires { Window m k }
-    ensures { Follows pattern m k result }
-{
-    let mut word = 0;
-    for place in 0..k {
-        word = with_bit(word, place, pattern_bit(pattern, m, k, place));
-    }
-    word
-}
-
 impl Pattern {
     // The pattern's word with m ones of k bits; none unless 1 ≤ m ≤ k ≤ 64.
     pub fn word(self, m: u32, k: u32) -> Option<u64>
         ensures { MatchOption result (Window m k → ⊥) (λ w. Window m k × Follows self m k w) }
     {
-        if m < 1 || k < m || k > 64 {
-            return None;
+        Quota::new(m, k).map(|quota| self.word_for(quota))
+    }
+
+    // The pattern's word with the quota's ones and bits.
+    pub fn word_for(self, quota: Quota) -> u64
+        ensures { Follows self quota.m quota.k result }
+    {
+        word_of(quota.k, |place| self.bit(quota, place))
+    }
+
+    #[tactic(auto, using(crate::proofs::PatternLemmas::ceil_is_up))]
+    fn bit(self, quota: Quota, place: u32) -> u64
+        requires { place < quota.k }
+        ensures { result ≡ pattern_bit self quota.m quota.k place }
+    {
+        let zeros = quota.k - quota.m;
+        match self {
+            Pattern::R => u64::from(place >= zeros),
+            Pattern::E if zeros == 0 => 1,
+            Pattern::E => {
+                let count = (place * zeros).div_ceil(quota.k);
+                u64::from(place != count * quota.k / zeros)
+            }
         }
-        Some(pattern_word(self, m, k))
     }
 }

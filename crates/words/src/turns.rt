@@ -2,7 +2,7 @@
 ghost use Rattle.std.specs.Prelude.{◌≡◌, ℕ, ◌<◌, ◌≤◌, MatchOption};
 ghost use Rattle.words.specs.Turns.{falls_at, turn_of, Rearranges, Turned};
 
-use crate::bits::{bit_at, with_bit};
+use crate::bits::{bit_at, word_of};
 
 // Bit `place` is 0, and the bit before it, going round, is 1.
 fn falls(word: u64, k: u32, place: u32) -> bool
@@ -18,23 +18,7 @@ pub fn turn(word: u64, k: u32) -> u32
     ensures is { result ≡ turn_of word k }
     ensures rearranges { Rearranges word k result }
 {
-    for place in 0..k {
-        if falls(word, k, place) {
-            return place;
-        }
-    }
-    0
-}
-
-fn turned_word(word: u64, k: u32, by: u32) -> u64
-    requires { (1 ≤ k) × (k ≤ 64) × (by < k) }
-    ensures { Turned word k by result }
-{
-    let mut result = 0;
-    for place in 0..k {
-        result = with_bit(result, place, bit_at(word, (place + by) % k));
-    }
-    result
+    (0..k).find(|place| falls(word, k, *place)).unwrap_or(0)
 }
 
 // The word of k bits turned left by any number of places; none unless 1 ≤ k ≤ 64.
@@ -44,7 +28,8 @@ pub fn turned(word: u64, k: u32, by: u32) -> Option<u64>
     if k < 1 || k > 64 {
         return None;
     }
-    Some(turned_word(word, k, by % k))
+    let by = by % k;
+    Some(word_of(k, |place| bit_at(word, (place + by) % k)))
 }
 
 // The word of k bits turned left by its turn; none unless 1 ≤ k ≤ 64.
@@ -57,6 +42,7 @@ pub fn rearranged(word: u64, k: u32) -> Option<u64>
 #[cfg(test)]
 mod tests {
     use crate::patterns::Pattern;
+    use crate::quota::Quota;
     use crate::turns::{rearranged, turn};
 
     // Words are written with bit 0 last here: R(3,10) is 0000000111, bit 0 first.
@@ -69,6 +55,11 @@ mod tests {
         assert_eq!(rt; Pattern::R.word(1, 1), Some(1));
         assert_eq!(rt; Pattern::E.word(1, 1), Some(1));
         assert_eq!(rt; Pattern::R.word(1, 65), None);
+        assert_eq!(rt;
+            Quota::new(5, 10).map(|quota| Pattern::E.word_for(quota)),
+            Some(0b10_1010_1010)
+        );
+        assert_eq!(rt; Quota::new(2, 1), None);
         assert_eq!(rt; turn(0b1_0011, 5), 2);
         assert_eq!(rt; rearranged(0b1_0011, 5), Some(0b1_1100));
     }
