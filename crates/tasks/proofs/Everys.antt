@@ -1,7 +1,7 @@
 -- The turns of a loop that tests every byte.
-use Rattle.std.proofs.Common.{◌≡◌, ℕ, zero, suc, ◌+◌, ◌<◌, ◌≤◌, Bool, true, false, ◌&&◌, List, [], ◌∷◌, length, get_or, drop, sym, ap, ◌∙◌, arith}
+use Rattle.std.proofs.Common.{◌≡◌, ℕ, ◌+◌, ◌<◌, ◌≤◌, Bool, true, false, ◌&&◌, List, length, get_or, drop, refl, sym, ap, ◌∙◌}
 use Rattle.std.proofs.lemmas.List.{at_drop_more, at_drop_all}
-use Rattle.std.proofs.lemmas.Bool.{and_parts}
+use Rattle.std.proofs.lemmas.List.Recursion.{and_at}
 use Rattle.tasks.specs.Bytes.{every}
 
 module _ (p : ℕ → Bool) (bs : List ℕ) (i : ℕ) (inv : every p (drop i bs) ≡ every p bs) where
@@ -16,6 +16,4 @@ module _ (p : ℕ → Bool) (bs : List ℕ) (i : ℕ) (inv : every p (drop i bs)
 
 -- what passes passes at each place
 pub every_at : (p : ℕ → Bool) (bs : List ℕ) (i : ℕ) → every p bs ≡ true → i < length bs → p (get_or bs i 0) ≡ true
-every_at p [] i e h = absurd (omega arith)
-every_at p (b ∷ bs) zero e h = (and_parts (p b) (every p bs) e).0
-every_at p (b ∷ bs) (suc i) e h = every_at p bs i (and_parts (p b) (every p bs) e).1 (omega arith)
+every_at p bs i e h = and_at (every p) p refl (λ _ _. refl) bs i 0 h e

@@ -1,8 +1,12 @@
 -- A table that grows by a line keeps its rules.
-use Rattle.std.proofs.Common.{◌≡◌, ℕ, suc, ◌+◌, ◌-◌, ◌<◌, ◌≤◌, List, [], length, get_or, take, set, sym, ap, ◌∙◌, subst, ⊎_elim, arith}
+use Rattle.std.proofs.Common.{◌≡◌, ℕ, suc, ◌+◌, ◌-◌, ◌<◌, ◌≤◌, Bool, List, [], ◌∷◌, map, length, Decides, refl, get_or, take, set, sym, ap, ◌∙◌, subst, ⊎_elim, arith}
 use lib.ListN.{length-map}
 use Rattle.std.proofs.lemmas.List.{length-take-le, get_or-take, get_or-set_same, get_or-set_other, map-set, take-map, get_or-map}
 use Rattle.std.proofs.lemmas.Bool.{cases_lt}
+use Rattle.std.proofs.lemmas.Bool.Decides.{Decides-like, Decides-by_or}
+use Rattle.std.proofs.lemmas.Slice.Eq.{bytes_eq-Decides}
+use Rattle.std.specs.List.{list_any, HoldsAt}
+use Rattle.std.specs.Str.{bytes_eq}
 use Rattle.tasks.specs.declared.line.Line.{Line}
 use Rattle.tasks.specs.Named.{name_bytes}
 use Rattle.tasks.specs.Lines.{names, periods}
@@ -59,6 +63,21 @@ module _ (ls : List Line) (n : ℕ) (l : Line) (room : n < length ls) where
       let room' : n < length (names ls) = omega (arith, length-map ls (λ (y : Line). name_bytes y.name)) in
       apart_values (names ls) n (name_bytes l.name) room' old (λ x b f. new (used_at x b f)) i j lt h (ap (λ xs. get_or xs i []) (sym e) ∙ same ∙ ap (λ xs. get_or xs j []) e)
 
--- the name of the line at a place
-pub name_at : (ls : List Line) (i : ℕ) (l : Line) → i < length ls → l ≡ get_or ls i l → get_or (names ls) i [] ≡ name_bytes l.name
-name_at ls i l h is = get_or-map (λ (y : Line). name_bytes y.name) ls i l [] h ∙ ap (λ (y : Line). name_bytes y.name) (sym is)
+-- a search of lines for a name
+pub Decides-used : (x : List ℕ) (ls : List Line) → Decides (list_any (λ (l : Line). bytes_eq (name_bytes l.name) x) ls) (Used x ls)
+Decides-used x ls =
+    Decides-like
+    (list_any test ls)
+    (λ h. (h.0, omega (arith, h.1), read ls h))
+    (λ u. (u.0, u.1, λ d. sym (get_or-map name ls u.0 d [] u.1) ∙ u.2))
+    (Decides-by_or test (λ l. name l ≡ x) (list_any test) (λ l. bytes_eq-Decides (name l) x) refl (λ _ _. refl) ls)
+  where
+    name : Line → List ℕ
+    name l = name_bytes l.name
+
+    test : Line → Bool
+    test l = bytes_eq (name l) x
+
+    read : (ys : List Line) (h : (k : ℕ) × (k < length ys) × HoldsAt (λ l. name l ≡ x) ys k) → get_or (map name ys) h.0 [] ≡ x
+    read [] h = absurd (omega (arith, h.1))
+    read (y ∷ ys) h = get_or-map name (y ∷ ys) h.0 y [] h.1 ∙ h.2 y

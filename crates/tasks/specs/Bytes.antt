@@ -1,10 +1,10 @@
 -- Bytes that a name is made of.
-use Rattle.std.specs.Prelude.{ℕ, Bool, true, ◌&&◌, ◌||◌, List, [], ◌∷◌, length, ◌==◌, nat_le}
+use Rattle.std.specs.Prelude.{ℕ, Bool, ◌&&◌, ◌||◌, List, length, ◌==◌, nat_le}
+use Rattle.std.specs.List.{list_all}
 
 -- each byte passes the test
 abbrev pub every : (ℕ → Bool) → List ℕ → Bool
-every p [] = true
-every p (b ∷ bs) = p b && every p bs
+every p bs = list_all p bs
 
 -- 0 to 9
 abbrev pub digit : ℕ → Bool

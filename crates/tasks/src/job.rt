@@ -1,8 +1,10 @@
 // What is planned for a job, which version of its task runs, and how a job or a tick comes out.
-ghost use Rattle.std.specs.Prelude.{◌≡◌};
+ghost use Rattle.std.specs.Prelude.{◌≡◌, Some};
 ghost use Rattle.tasks.specs.Spelled.{plan_word, ending_word, outcome_word};
 
-#[derive(Clone, Copy, PartialEq, Eq)]
+use std::fmt;
+
+#[derive(Clone, Copy, PartialEq, Eq, Debug)]
 pub enum Plan {
     // U: the bare version
     Bare,
@@ -28,8 +30,16 @@ impl Plan {
     }
 }
 
+impl fmt::Display for Plan {
+    ghost output = { λ p. Some (plan_word p) };
+
+    fn fmt<W: fmt::Write>(&self, f: &mut fmt::Formatter<W>) -> fmt::Result {
+        f.write_str(Plan::word(*self))
+    }
+}
+
 // The versions that a task comes in.
-#[derive(Clone, Copy, PartialEq, Eq)]
+#[derive(Clone, Copy, PartialEq, Eq, Debug)]
 pub enum Version {
     Bare,
     Detect,
@@ -37,7 +47,7 @@ pub enum Version {
 }
 
 // How a job ends.
-#[derive(Clone, Copy, PartialEq, Eq)]
+#[derive(Clone, Copy, PartialEq, Eq, Debug)]
 pub enum Ending {
     // bare: nobody looked for a fault
     Blind,
@@ -62,8 +72,16 @@ impl Ending {
     }
 }
 
+impl fmt::Display for Ending {
+    ghost output = { λ e. Some (ending_word e) };
+
+    fn fmt<W: fmt::Write>(&self, f: &mut fmt::Formatter<W>) -> fmt::Result {
+        f.write_str(Ending::word(*self))
+    }
+}
+
 // How a tick comes out.
-#[derive(Clone, Copy, PartialEq, Eq)]
+#[derive(Clone, Copy, PartialEq, Eq, Debug)]
 pub enum Outcome {
     // no job was open
     Idle,
@@ -85,5 +103,13 @@ impl Outcome {
             Outcome::Again => "again",
             Outcome::Ended(ending) => ending.word(),
         }
+    }
+}
+
+impl fmt::Display for Outcome {
+    ghost output = { λ o. Some (outcome_word o) };
+
+    fn fmt<W: fmt::Write>(&self, f: &mut fmt::Formatter<W>) -> fmt::Result {
+        f.write_str(Outcome::word(*self))
     }
 }

@@ -1,7 +1,6 @@
 // The task model: what a line of a task table says, the table, and why a call is refused.
 #![tactic(auto)]
 
-mod bytes;
 pub mod job;
 pub mod line;
 pub mod lines;

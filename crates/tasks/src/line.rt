@@ -7,7 +7,7 @@ use crate::name::Name;
 use crate::technique::Technique;
 
 // The worst-case times of the three versions, in ticks.
-#[derive(Clone, Copy, PartialEq, Eq)]
+#[derive(Clone, Copy, PartialEq, Eq, Debug)]
 pub struct Times {
     pub bare: u32,
     pub detect: u32,

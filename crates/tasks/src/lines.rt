@@ -7,6 +7,7 @@ use crate::line::{Line, Times};
 use crate::name::Name;
 use crate::technique::Technique;
 use words::bits::count_ones;
+use words::quota::Quota;
 
 impl Line {
     // The line with these values; none unless they keep the rules of a line.
@@ -21,9 +22,7 @@ impl Line {
     ) -> Option<Line>
         ensures { MatchOption result (Lawful m k word times period → ⊥) (λ l. Lawful m k word times period × Says l name technique m k word times period) }
     {
-        if m < 1 || k < m || k > 64 {
-            return None;
-        }
+        let Quota { m, k } = Quota::new(m, k)?;
         if k < 64 && word >> k != 0 {
             return None;
         }

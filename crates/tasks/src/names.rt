@@ -1,26 +1,17 @@
 // Names made from bytes, and compared.
 ghost use Rattle.std.specs.Prelude.{◌≡◌, ◌≤◌, true, false, length, Decides, MatchOption};
-ghost use Rattle.tasks.specs.Bytes.{every, name_byte, is_name};
+ghost use Rattle.std.specs.Cmp.{on_equiv, on_per, partial_equiv_from_equiv};
+ghost use Rattle.std.specs.Cmp.Lexicographic.{nat_list_eq_equiv};
+ghost use Rattle.std.specs.Str.{bytes_eq};
+ghost use Rattle.tasks.specs.Bytes.{name_byte, is_name};
 ghost use Rattle.tasks.specs.Named.{name_bytes};
 
-use crate::bytes::same_bytes;
 use crate::name::Name;
 
 fn is_name_byte(byte: u8) -> bool
     ensures { result ≡ name_byte byte }
 {
-    matches!(byte, b'A'..=b'Z' | b'a'..=b'z' | b'0'..=b'9' | b'_')
-}
-
-fn all_name_bytes(bytes: &[u8]) -> bool
-    ensures { result ≡ every name_byte bytes.now }
-{
-    for byte in bytes {
-        if !is_name_byte(*byte) {
-            return false;
-        }
-    }
-    true
+    byte.is_ascii_alphanumeric() || byte == b'_'
 }
 
 impl Name {
@@ -29,11 +20,11 @@ impl Name {
         ensures { MatchOption result (is_name bytes.now ≡ false) (λ n. (is_name bytes.now ≡ true) × (name_bytes n ≡ bytes.now)) }
     {
         let len = bytes.len();
-        if len < 1 || len > 8 || !all_name_bytes(bytes) {
+        if len < 1 || len > 8 || !bytes.iter().all(|byte| is_name_byte(*byte)) {
             return None;
         }
         let mut kept = [0; 8];
-        kept[0..len].copy_from_slice(bytes);
+        kept[..len].copy_from_slice(bytes);
         Some(Name { bytes: kept, len })
     }
 
@@ -41,13 +32,24 @@ impl Name {
         ensures is { result.now ≡ name_bytes self.now }
         ensures size { (1 ≤ length result.now) × (length result.now ≤ 8) }
     {
-        &self.bytes[0..self.len]
+        &self.bytes[..self.len]
     }
+}
 
-    // Whether the two are the same bytes.
-    pub fn is(&self, other: &Name) -> bool
-        ensures { Decides result (name_bytes self.now ≡ name_bytes other.now) }
+// Two names are equal if they are the same bytes.
+impl PartialEq for Name {
+    ghost eq = { λ a b. bytes_eq (name_bytes a) (name_bytes b) };
+
+    ghost laws = { on_per name_bytes (partial_equiv_from_equiv nat_list_eq_equiv) };
+
+    fn eq(&self, other: &Name) -> bool
+        ensures is { result ≡ bytes_eq (name_bytes self.now) (name_bytes other.now) }
+        ensures same { Decides result (name_bytes self.now ≡ name_bytes other.now) }
     {
-        same_bytes(self.bytes(), other.bytes())
+        self.bytes() == other.bytes()
     }
+}
+
+impl Eq for Name {
+    ghost laws = { on_equiv name_bytes nat_list_eq_equiv };
 }

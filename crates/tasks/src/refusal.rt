@@ -1,10 +1,10 @@
 // Why a call is refused.
 ghost use Rattle.std.specs.Prelude.{◌≡◌};
-ghost use Rattle.tasks.specs.Refused.{told_number, told_line, told_place};
+ghost use Rattle.tasks.specs.Refused.{told, told_number, told_line, told_place};
 
 // Every cause, with the line and the place in the text where the cause has them. Lines count from 1, places
 // from the text's first byte as 0.
-#[derive(Clone, Copy, PartialEq, Eq)]
+#[derive(Clone, Copy, PartialEq, Eq, Debug)]
 pub enum Refusal {
     // the text is empty, too long, or does not end in a line feed
     Text,
@@ -41,57 +41,47 @@ pub enum Refusal {
 }
 
 impl Refusal {
+    // Its number, and the line and the place in the text, 0 where the cause has none.
+    fn told(self) -> (u32, u32, usize)
+        ensures { result ≡ told self }
+    {
+        match self {
+            Refusal::Text => (1, 0, 0),
+            Refusal::FieldCount { line, place } => (2, line, place),
+            Refusal::Form { line, place } => (3, line, place),
+            Refusal::Value { line, place } => (4, line, place),
+            Refusal::PeriodFalls { line, place } => (5, line, place),
+            Refusal::NameUsed { line, place } => (6, line, place),
+            Refusal::TooManyLines { place } => (7, 33, place),
+            Refusal::Declined { line } => (8, line, 0),
+            Refusal::NoLines => (9, 0, 0),
+            Refusal::Shut => (10, 0, 0),
+            Refusal::AlreadyOpen => (11, 0, 0),
+            Refusal::NoSuchTask => (12, 0, 0),
+            Refusal::TooEarly => (13, 0, 0),
+            Refusal::JobOpen => (14, 0, 0),
+            Refusal::TickWord => (15, 0, 0),
+            Refusal::TicksSpent => (16, 0, 0),
+        }
+    }
+
     pub fn number(self) -> u32
         ensures { result ≡ told_number self }
     {
-        match self {
-            Refusal::Text => 1,
-            Refusal::FieldCount { .. } => 2,
-            Refusal::Form { .. } => 3,
-            Refusal::Value { .. } => 4,
-            Refusal::PeriodFalls { .. } => 5,
-            Refusal::NameUsed { .. } => 6,
-            Refusal::TooManyLines { .. } => 7,
-            Refusal::Declined { .. } => 8,
-            Refusal::NoLines => 9,
-            Refusal::Shut => 10,
-            Refusal::AlreadyOpen => 11,
-            Refusal::NoSuchTask => 12,
-            Refusal::TooEarly => 13,
-            Refusal::JobOpen => 14,
-            Refusal::TickWord => 15,
-            Refusal::TicksSpent => 16,
-        }
+        self.told().0
     }
 
     // The line, or 0 where the cause has none.
     pub fn line(self) -> u32
         ensures { result ≡ told_line self }
     {
-        match self {
-            Refusal::FieldCount { line, .. }
-            | Refusal::Form { line, .. }
-            | Refusal::Value { line, .. }
-            | Refusal::PeriodFalls { line, .. }
-            | Refusal::NameUsed { line, .. }
-            | Refusal::Declined { line } => line,
-            Refusal::TooManyLines { .. } => 33,
-            _ => 0,
-        }
+        self.told().1
     }
 
     // The place in the text, or 0 where the cause has none.
     pub fn place(self) -> usize
         ensures { result ≡ told_place self }
     {
-        match self {
-            Refusal::FieldCount { place, .. }
-            | Refusal::Form { place, .. }
-            | Refusal::Value { place, .. }
-            | Refusal::PeriodFalls { place, .. }
-            | Refusal::NameUsed { place, .. }
-            | Refusal::TooManyLines { place } => place,
-            _ => 0,
-        }
+        self.told().2
     }
 }

@@ -6,6 +6,7 @@ use crate::line::Line;
 
 // At most 32 lines, the first `len` of the array; line 1 has the highest priority. The periods never fall from
 // one line to the next, and no two names are the same bytes. What stands behind the lines does not count.
+// An array and its length, since a table is fixed memory, copied whole into a controller, with no heap.
 #[derive(Clone, Copy)]
 pub struct Table {
     pub(crate) lines: [Line; 32],

@@ -11,7 +11,7 @@ use crate::table::Table;
 use crate::technique::Technique;
 
 // Why a line is not added to a table, in the order in which it is tested.
-#[derive(Clone, Copy, PartialEq, Eq)]
+#[derive(Clone, Copy, PartialEq, Eq, Debug)]
 pub enum Unfit {
     // the table has 32 lines already
     Full,
@@ -21,10 +21,10 @@ pub enum Unfit {
     PeriodFalls,
 }
 
-// What stands behind the lines of a new table.
+// What stands behind the lines of a new table: an array has a value at each place.
 fn filler() -> Line {
     let name = Name {
-        bytes: [65; 8],
+        bytes: [b'A'; 8],
         len: 1,
     };
     let times = Times {
@@ -61,40 +61,29 @@ impl Table {
         ensures count { length result.now ≡ self.now.len }
         ensures few { length result.now ≤ 32 }
     {
-        &self.lines[0..self.len]
+        &self.lines[..self.len]
     }
 
     // The line with a number, from 1.
     pub fn line(&self, number: u32) -> Result<&Line, Refusal>
         ensures { MatchResult result (λ l. Numbered (lines_of self.now) number l.now) (λ e. (e ≡ NoSuchTask) × (IsLine (lines_of self.now) number → ⊥)) }
     {
-        let lines = self.lines();
-        let number = number as usize;
-        if number < 1 || number > lines.len() {
-            return Err(Refusal::NoSuchTask);
-        }
-        Ok(&lines[number - 1])
+        number
+            .checked_sub(1)
+            .and_then(|place| self.lines().get(place as usize))
+            .ok_or(Refusal::NoSuchTask)
     }
 
     fn uses(&self, name: &Name) -> bool
         ensures { Decides result (Used (name_bytes name.now) (lines_of self.now)) }
     {
-        for line in self.lines() {
-            if line.name.is(name) {
-                return true;
-            }
-        }
-        false
+        self.lines().iter().any(|line| line.name == *name)
     }
 
     fn last_period(&self) -> u32
         ensures { result ≡ last_period (lines_of self.now) }
     {
-        if self.len == 0 {
-            0
-        } else {
-            self.lines[self.len - 1].period
-        }
+        self.lines().last().map_or(0, |line| line.period)
     }
 
     // Adds a line at the end; a table that the line does not fit stays as it is.

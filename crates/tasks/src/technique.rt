@@ -1,11 +1,11 @@
 // The techniques by which a line's jobs are made reliable.
-ghost use Rattle.std.specs.Prelude.{◌≡◌, MatchOption, ◌≢◌};
+ghost use Rattle.std.specs.Prelude.{◌≡◌, Some, MatchOption, ◌≢◌};
 ghost use Rattle.tasks.specs.declared.technique.Technique.{Technique};
 ghost use Rattle.tasks.specs.Spelled.{technique_word};
 
-use crate::bytes::same_bytes;
+use std::fmt;
 
-#[derive(Clone, Copy, PartialEq, Eq)]
+#[derive(Clone, Copy, PartialEq, Eq, Debug)]
 pub enum Technique {
     // every job corrects
     Fr,
@@ -37,18 +37,21 @@ impl Technique {
     pub fn named(word: &[u8]) -> Option<Technique>
         ensures { MatchOption result ((t : Technique) → word.now ≢ technique_word t) (λ t. word.now ≡ technique_word t) }
     {
-        if same_bytes(word, b"FR") {
-            Some(Technique::Fr)
-        } else if same_bytes(word, b"SRE") {
-            Some(Technique::Sre)
-        } else if same_bytes(word, b"SDR") {
-            Some(Technique::Sdr)
-        } else if same_bytes(word, b"DRE") {
-            Some(Technique::Dre)
-        } else if same_bytes(word, b"DDR") {
-            Some(Technique::Ddr)
-        } else {
-            None
+        match word {
+            b"FR" => Some(Technique::Fr),
+            b"SRE" => Some(Technique::Sre),
+            b"SDR" => Some(Technique::Sdr),
+            b"DRE" => Some(Technique::Dre),
+            b"DDR" => Some(Technique::Ddr),
+            _ => None,
         }
+    }
+}
+
+impl fmt::Display for Technique {
+    ghost output = { λ t. Some (technique_word t) };
+
+    fn fmt<W: fmt::Write>(&self, f: &mut fmt::Formatter<W>) -> fmt::Result {
+        f.write_str(Technique::word(*self))
     }
 }

@@ -1,51 +1,26 @@
 // Lines that differ only by a turn of the word.
-ghost use Rattle.std.specs.Prelude.{◌≡◌, ℕ, ◌<◌, ◌≤◌, Decides};
-ghost use Rattle.words.specs.Bits.{bit};
-ghost use Rattle.words.specs.Turns.{turned_bit, Turned};
+ghost use Rattle.std.specs.Prelude.{Decides};
+ghost use Rattle.words.specs.Turns.{Turned};
 ghost use Rattle.tasks.specs.Tables.{lines_of};
 ghost use Rattle.tasks.specs.Twins.{Twins, Asked};
 
 use crate::line::Line;
 use crate::refusal::Refusal;
 use crate::table::Table;
-use words::bits::bit_at;
+use words::turns::turned;
 
-// Whether the k bits of b are those of a turned left by some places.
-fn is_turned_by(a: u64, b: u64, k: u32, by: u32) -> bool
-    requires { (k ≤ 64) × (by < k) }
-    ensures { Decides result ((j : ℕ) → j < k → bit b j ≡ turned_bit a k by j) }
+// Whether b's word is a's turned left by so many places.
+fn is_turned_by(a: &Line, b: &Line, by: u32) -> bool
+    ensures { Decides result (Turned a.now.word a.now.k by b.now.word) }
 {
-    for place in 0..k {
-        if bit_at(b, place) != bit_at(a, (place + by) % k) {
-            return false;
-        }
-    }
-    true
-}
-
-// Whether the k bits of b are those of a turned left by any number of places.
-fn is_turned(a: u64, b: u64, k: u32) -> bool
-    requires { (1 ≤ k) × (k ≤ 64) }
-    ensures { Decides result ((s : ℕ) × ((j : ℕ) → j < k → bit b j ≡ turned_bit a k s j)) }
-{
-    for by in 0..k {
-        if is_turned_by(a, b, k, by) {
-            return true;
-        }
-    }
-    false
+    turned(a.word, a.k, by) == Some(b.word)
 }
 
 fn are_twins(a: &Line, b: &Line) -> bool
     ensures { Decides result (Twins a.now b.now) }
 {
-    if a.technique != b.technique || a.m != b.m || a.k != b.k || a.period != b.period {
-        return false;
-    }
-    if a.times != b.times {
-        return false;
-    }
-    is_turned(a.word, b.word, a.k)
+    (a.technique, a.m, a.k, a.times, a.period) == (b.technique, b.m, b.k, b.times, b.period)
+        && (0..a.k).any(|by| is_turned_by(a, b, by))
 }
 
 impl Table {

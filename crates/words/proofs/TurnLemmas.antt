@@ -6,6 +6,7 @@ use Rattle.words.specs.Sums.{row}
 use Rattle.words.specs.Bits.{bit, ones}
 use Rattle.words.specs.Turns.{before, falls_at, turn_of, Rearranges, turned_bit, Turned}
 use Rattle.words.proofs.Sums.{row_round, sum_above, sum_some, zeros_and_ones, sum_of_ones, sum_cong_below, sum_turned}
+use Rattle.words.proofs.Words.{word_is}
 use Rattle.words.proofs.Searches.{first_passes, first_least, first_missing, first_within}
 
 -- the place before the next one is the place itself
@@ -80,12 +81,19 @@ turn_rearranges w k = record {
 
 -- ---- a word turned by s places
 
--- by is s without its whole rounds
-pub turned_from : (w k s by v : ℕ) → by ≡ s % k → ((j : ℕ) → j < k → bit v j ≡ turned_bit w k by j) → v < 2 ^ k → Turned w k s v
-turned_from w k s by v e bits narrow =
-    let round : (j : ℕ) → turned_bit w k by j ≡ turned_bit w k s j = λ j. ap (λ t. turned_bit w k t j) e ∙ ap (bit w) (add-mod-mod j s k) in
-    record {
-      bits = λ j h. bits j h ∙ round j;
-      reliable = sum_cong_below (bit v) (turned_bit w k s) k (λ j h. bits j h ∙ round j) ∙ sum_turned (bit w) k s;
-      narrow = narrow;
-    }
+module _ (w k s : ℕ) where
+  -- whole rounds of a turn do not count
+  turned_bit_round : (j : ℕ) → turned_bit w k (s % k) j ≡ turned_bit w k s j
+  turned_bit_round j = ap (bit w) (add-mod-mod j s k)
+
+  pub turned_from : (by v : ℕ) → by ≡ s % k → ((j : ℕ) → j < k → bit v j ≡ turned_bit w k by j) → v < 2 ^ k → Turned w k s v
+  turned_from by v e bits narrow =
+      let all : (j : ℕ) → j < k → bit v j ≡ turned_bit w k s j = λ j h. bits j h ∙ ap (λ t. turned_bit w k t j) e ∙ turned_bit_round j in
+      record { bits = all; reliable = sum_cong_below (bit v) (turned_bit w k s) k all ∙ sum_turned (bit w) k s; narrow = narrow }
+
+  pub turned_round : (v : ℕ) → Turned w k s v → Turned w k (s % k) v
+  turned_round v t = record { bits = λ j h. t.bits j h ∙ sym (turned_bit_round j); reliable = t.reliable; narrow = t.narrow }
+
+  -- there is one such word
+  pub turned_same : (u v : ℕ) → Turned w k s u → Turned w k s v → u ≡ v
+  turned_same u v t t' = word_is (turned_bit w k s) k u t.narrow t.bits ∙ sym (word_is (turned_bit w k s) k v t'.narrow t'.bits)

@@ -1,34 +1,28 @@
-use Rattle.std.proofs.Common.{◌≡◌, rules}
+use Rattle.std.proofs.Common.{sym, ◌∙◌, arith, rules, tests}
+use Rattle.std.proofs.lemmas.Iterator.{YieldsList-from_range, cases_from_any}
 use Rattle.std.proofs.lemmas.Bool.{false≢true}
 use Rattle.tasks.specs.declared.job.Version.TheVariants.{Bare, Detect, Correct}
-use Rattle.tasks.proofs.TwinLemmas.{word_turned, times_agree}
+use Rattle.words.specs.Turns.{Turned}
+use Rattle.tasks.proofs.TwinLemmas.{Decides-twins}
 use Rattle.tasks.proofs.twins.are_twins.Goals as goal
 
-pub returns-then-ne-2 : goal.returns-then-ne-2
-returns-then-ne-2 c = (
-  (λ e. absurd (false≢true e)),
-  (λ t.
-      let u = t.times Bare in
-      let d = t.times Detect in
-      let r = t.times Correct in
-      search rules),
-)
-
-pub returns : goal.returns
-returns c =
+pub returns-then-eq : goal.returns-then-eq
+returns-then-eq c =
     let a = c.args.a.now in
     let b = c.args.b.now in
-    let u : a.times.bare ≡ b.times.bare = search rules in
-    let d : a.times.detect ≡ b.times.detect = search rules in
-    let r : a.times.correct ≡ b.times.correct = search rules in
-    let technique : a.technique ≡ b.technique = search rules in (
-      (λ e. record {
-        technique = technique;
-        right = c.if-a-b.false;
-        of = c.if-a-b-2.false;
-        times = times_agree a b u d r;
-        period = c.if-a-b-3.false;
-        word = word_turned a b c.if-a-b.false c.if-a-b-2.false (c.is_turned.ensures.0 e);
-      }),
-      (λ t. c.is_turned.ensures.1 (t.word.0, t.word.1.bits)),
-    )
+    Decides-twins a b (search (rules, tests)) (search (rules, tests)) (search (rules, tests)) (search (rules, tests)) (search (rules, tests)) (search (rules, tests)) (search (rules, tests)) c.any.result
+    (cases_from_any _ _ _ (λ s. Turned a.word a.k s b.word) (λ s. Turned a.word a.k s b.word → ⊥) c.any.ensures.ran (YieldsList-from_range 0 a.k a.k (search rules) (omega arith)) (λ s q k. search (rules, tests)) (λ s q k. search (rules, tests)))
+
+pub returns-else-eq : goal.returns-else-eq
+returns-else-eq c = (
+  (λ e. absurd (false≢true (sym c.if-eq.false ∙ e))),
+  (λ t.
+      let technique = t.technique in
+      let m = t.right in
+      let k = t.of in
+      let bare = t.times Bare in
+      let detect = t.times Detect in
+      let correct = t.times Correct in
+      let period = t.period in
+      search (rules, tests)),
+)
