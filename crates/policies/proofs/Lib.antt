@@ -1,1 +1,2 @@
+mod CostLemmas
 pub mod Promised

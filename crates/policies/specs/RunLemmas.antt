@@ -1,6 +1,5 @@
 -- Lemmas on runs, and on the endings that move a mark.
-use Rattle.std.specs.Prelude.{◌≡◌, ℕ, true, false, List, [], ◌∷◌, ◌++◌, refl}
-use Rattle.std.proofs.lemmas.Bool.{both_ways}
+use Rattle.std.specs.Prelude.{◌≡◌, ℕ, true, List, [], ◌∷◌, ◌++◌}
 use Rattle.tasks.specs.declared.job.Plan.{Plan}
 use Rattle.tasks.specs.declared.job.Plan.TheVariants.{Bare, Detect, Correct, Recover}
 use Rattle.tasks.specs.declared.job.Ending.{Ending}
@@ -17,18 +16,18 @@ run_rest plan next mark (e ∷ es) rest r = run_rest plan next (next mark e) es 
 -- only an allowed ending moves the mark
 pub moves_allowed : (p : Plan) (e : Ending) → moves p e ≡ true → Allows p e
 moves_allowed Bare Blind h = bare_blind
-moves_allowed Bare Clean h = absurd (both_ways false refl h)
-moves_allowed Bare Bad h = absurd (both_ways false refl h)
-moves_allowed Bare Sure h = absurd (both_ways false refl h)
-moves_allowed Detect Blind h = absurd (both_ways false refl h)
-moves_allowed Detect Clean h = absurd (both_ways false refl h)
+moves_allowed Bare Clean h = cc
+moves_allowed Bare Bad h = cc
+moves_allowed Bare Sure h = cc
+moves_allowed Detect Blind h = cc
+moves_allowed Detect Clean h = cc
 moves_allowed Detect Bad h = detect_bad
-moves_allowed Detect Sure h = absurd (both_ways false refl h)
-moves_allowed Correct Blind h = absurd (both_ways false refl h)
-moves_allowed Correct Clean h = absurd (both_ways false refl h)
-moves_allowed Correct Bad h = absurd (both_ways false refl h)
+moves_allowed Detect Sure h = cc
+moves_allowed Correct Blind h = cc
+moves_allowed Correct Clean h = cc
+moves_allowed Correct Bad h = cc
 moves_allowed Correct Sure h = correct_sure
-moves_allowed Recover Blind h = absurd (both_ways false refl h)
+moves_allowed Recover Blind h = cc
 moves_allowed Recover Clean h = recover_clean
-moves_allowed Recover Bad h = absurd (both_ways false refl h)
+moves_allowed Recover Bad h = cc
 moves_allowed Recover Sure h = recover_sure

@@ -1,5 +1,6 @@
 -- What each technique means: which lines it takes, what it plans, where the mark goes, what it demands.
-use Rattle.std.specs.Prelude.{ℕ, ◌*◌, Bool, true, nat_le}
+use Rattle.std.specs.Prelude.{ℕ, ◌*◌, Bool, true, nat_le, Option, Some, None}
+use Rattle.std.specs.Option.{option_map_or}
 use Rattle.words.specs.Turns.{turn_of}
 use Rattle.tasks.specs.declared.line.Line.{Line}
 use Rattle.tasks.specs.declared.technique.Technique.{Technique}
@@ -7,6 +8,7 @@ use Rattle.tasks.specs.declared.technique.Technique.TheVariants.{Fr, Sre, Sdr, D
 use Rattle.tasks.specs.declared.job.Plan.{Plan}
 use Rattle.tasks.specs.declared.job.Plan.TheVariants.{Bare, Detect, Correct, Recover}
 use Rattle.tasks.specs.declared.job.Ending.{Ending}
+use Rattle.policies.specs.declared.pattern.BitPlans.{BitPlans}
 use Rattle.policies.specs.Endings.{worst}
 use Rattle.policies.specs.Patterns.{pattern_plan, pattern_next, pattern_demand}
 
@@ -21,27 +23,32 @@ technique_takes Sdr l = room_to_recover l
 technique_takes Dre l = true
 technique_takes Ddr l = room_to_recover l
 
+-- the plans of a 0 and of a 1; FR goes by no bits
+abbrev pub technique_bits : Technique → Option BitPlans
+technique_bits Fr = None
+technique_bits Sre = Some (record { on_zero = Bare; on_one = Correct })
+technique_bits Sdr = Some (record { on_zero = Bare; on_one = Recover })
+technique_bits Dre = Some (record { on_zero = Detect; on_one = Correct })
+technique_bits Ddr = Some (record { on_zero = Detect; on_one = Recover })
+
 -- by how many places a line's word is turned to be rearranged
 abbrev pub rearranging : Line → ℕ
 rearranging l = turn_of l.word l.k
 
+-- by how many places a technique turns a line's word
+abbrev pub technique_turn : Technique → Line → ℕ
+technique_turn Fr l = 0
+technique_turn Sre l = 0
+technique_turn Sdr l = 0
+technique_turn Dre l = rearranging l
+technique_turn Ddr l = rearranging l
+
+-- FR corrects every job; the others go by the bits
 abbrev pub technique_plan : Technique → Line → ℕ → Plan
-technique_plan Fr l mark = Correct
-technique_plan Sre l mark = pattern_plan Bare Correct 0 l mark
-technique_plan Sdr l mark = pattern_plan Bare Recover 0 l mark
-technique_plan Dre l mark = pattern_plan Detect Correct (rearranging l) l mark
-technique_plan Ddr l mark = pattern_plan Detect Recover (rearranging l) l mark
+technique_plan t l mark = option_map_or (λ (p : BitPlans). pattern_plan p.on_zero p.on_one (technique_turn t l) l mark) (technique_bits t) Correct
 
 abbrev pub technique_next : Technique → Line → ℕ → Ending → ℕ
-technique_next Fr l mark e = mark
-technique_next Sre l mark e = pattern_next Bare Correct 0 l mark e
-technique_next Sdr l mark e = pattern_next Bare Recover 0 l mark e
-technique_next Dre l mark e = pattern_next Detect Correct (rearranging l) l mark e
-technique_next Ddr l mark e = pattern_next Detect Recover (rearranging l) l mark e
+technique_next t l mark e = option_map_or (λ (p : BitPlans). pattern_next p.on_zero p.on_one (technique_turn t l) l mark e) (technique_bits t) mark
 
 abbrev pub technique_demand : Technique → Line → ℕ → ℕ
-technique_demand Fr l n = n * worst l Correct
-technique_demand Sre l n = pattern_demand Bare Correct l n
-technique_demand Sdr l n = pattern_demand Bare Recover l n
-technique_demand Dre l n = pattern_demand Detect Correct l n
-technique_demand Ddr l n = pattern_demand Detect Recover l n
+technique_demand t l n = option_map_or (λ (p : BitPlans). pattern_demand p.on_zero p.on_one l n) (technique_bits t) (n * worst l Correct)

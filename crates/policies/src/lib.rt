@@ -2,7 +2,7 @@
 #![tactic(auto)]
 
 pub mod by_line;
+mod costs;
 pub mod pattern;
 pub mod policy;
 pub mod technique;
-mod windows;

@@ -1,9 +1,9 @@
 // A technique as a policy: it plans every line by itself, whatever technique the line names.
-ghost use Rattle.policies.specs.Techniques.{technique_takes, technique_plan, technique_next, technique_demand, room_to_recover};
+ghost use Rattle.policies.specs.Techniques.{technique_takes, technique_plan, technique_next, technique_demand, technique_bits, technique_turn, room_to_recover};
 ghost use Rattle.std.specs.Prelude.{◌≡◌};
 ghost use Rattle.policies.specs.Kept.{technique_keeps};
 
-use crate::pattern::{demand_on, next_on, plan_on, worst_of};
+use crate::pattern::{BitPlans, worst_of};
 use crate::policy::Policy;
 use tasks::job::{Ending, Plan};
 use tasks::line::Line;
@@ -13,7 +13,31 @@ use words::turns::turn;
 fn has_room_to_recover(line: &Line) -> bool
     ensures { result ≡ room_to_recover line.now }
 {
-    worst_of(line, Plan::Recover) <= line.period as u64
+    worst_of(line, Plan::Recover) <= u64::from(line.period)
+}
+
+// The plans of a 0 and of a 1; FR goes by no bits.
+fn bit_plans(technique: Technique) -> Option<BitPlans>
+    ensures { result ≡ technique_bits technique }
+{
+    let (on_zero, on_one) = match technique {
+        Technique::Fr => return None,
+        Technique::Sre => (Plan::Bare, Plan::Correct),
+        Technique::Sdr => (Plan::Bare, Plan::Recover),
+        Technique::Dre => (Plan::Detect, Plan::Correct),
+        Technique::Ddr => (Plan::Detect, Plan::Recover),
+    };
+    Some(BitPlans { on_zero, on_one })
+}
+
+// By how many places a line's word is turned: two techniques rearrange it.
+fn turn_for(technique: Technique, line: &Line) -> u32
+    ensures { result ≡ technique_turn technique line.now }
+{
+    match technique {
+        Technique::Fr | Technique::Sre | Technique::Sdr => 0,
+        Technique::Dre | Technique::Ddr => turn(line.word, line.k),
+    }
 }
 
 impl Policy for Technique {
@@ -43,58 +67,23 @@ impl Policy for Technique {
     }
 
     fn plan_at(&self, line: &Line, mark: u64) -> Plan {
-        match *self {
-            Technique::Fr => Plan::Correct,
-            Technique::Sre => plan_on(line, Plan::Bare, Plan::Correct, 0, mark),
-            Technique::Sdr => plan_on(line, Plan::Bare, Plan::Recover, 0, mark),
-            Technique::Dre => plan_on(
-                line,
-                Plan::Detect,
-                Plan::Correct,
-                turn(line.word, line.k),
-                mark,
-            ),
-            Technique::Ddr => plan_on(
-                line,
-                Plan::Detect,
-                Plan::Recover,
-                turn(line.word, line.k),
-                mark,
-            ),
+        match bit_plans(*self) {
+            None => Plan::Correct,
+            Some(plans) => plans.plan_at(line, turn_for(*self, line), mark),
         }
     }
 
     fn next_mark(&self, line: &Line, mark: u64, ending: Ending) -> u64 {
-        match *self {
-            Technique::Fr => mark,
-            Technique::Sre => next_on(line, Plan::Bare, Plan::Correct, 0, mark, ending),
-            Technique::Sdr => next_on(line, Plan::Bare, Plan::Recover, 0, mark, ending),
-            Technique::Dre => next_on(
-                line,
-                Plan::Detect,
-                Plan::Correct,
-                turn(line.word, line.k),
-                mark,
-                ending,
-            ),
-            Technique::Ddr => next_on(
-                line,
-                Plan::Detect,
-                Plan::Recover,
-                turn(line.word, line.k),
-                mark,
-                ending,
-            ),
+        match bit_plans(*self) {
+            None => mark,
+            Some(plans) => plans.next_mark(line, turn_for(*self, line), mark, ending),
         }
     }
 
     fn demand_of(&self, line: &Line, jobs: u32) -> u64 {
-        match *self {
-            Technique::Fr => jobs as u64 * worst_of(line, Plan::Correct),
-            Technique::Sre => demand_on(line, Plan::Bare, Plan::Correct, jobs),
-            Technique::Sdr => demand_on(line, Plan::Bare, Plan::Recover, jobs),
-            Technique::Dre => demand_on(line, Plan::Detect, Plan::Correct, jobs),
-            Technique::Ddr => demand_on(line, Plan::Detect, Plan::Recover, jobs),
+        match bit_plans(*self) {
+            None => u64::from(jobs) * worst_of(line, Plan::Correct),
+            Some(plans) => plans.demand_of(line, jobs),
         }
     }
 }
