@@ -1,8 +1,7 @@
 -- The techniques keep the promises: FR by itself, the four that go by bits together.
-use Rattle.std.specs.Prelude.{◌≡◌, ℕ, zero, suc, ◌+◌, ◌*◌, ◌%◌, ◌<◌, ◌≤◌, true, false, cond, ◌⊎◌, List, [], ◌∷◌, length, refl}
-use Rattle.std.proofs.Common.{◌∙◌, inl, inr, suc-mul, mul-le-mul_right, mul-le-mul_left, arith}
+use Rattle.std.specs.Prelude.{◌≡◌, ℕ, zero, suc, ◌+◌, ◌*◌, ◌%◌, ◌<◌, ◌≤◌, true, false, cond, List, [], ◌∷◌, length, refl}
+use Rattle.std.proofs.Common.{◌∙◌, suc-mul, mul-le-mul_right, mul-le-mul_left, arith}
 use Rattle.std.proofs.Math.Path.{ap}
-use Rattle.std.proofs.Math.Logic.{⊎_elim}
 use Rattle.words.specs.Sums.{row}
 use Rattle.words.specs.Bits.{bit}
 use Rattle.words.specs.Turns.{turned_bit}
@@ -62,22 +61,23 @@ data Plans : Plan → Plan → Type 0 where
 
 -- what one allowed ending does: the mark stays, the job is right and costs no more than a zero; or the mark
 -- goes on, the job is right if the bit is 1 and costs no more than the bit
-abbrev Step : Line → Plan → Plan → ℕ → Ending → Type 0
-Step l z o b e = ((moves (plan_of_bit z o b) e ≡ false) × (1 ≤ right e) × (cost l (plan_of_bit z o b) e ≤ worst l z)) ⊎ ((moves (plan_of_bit z o b) e ≡ true) × (b ≤ right e) × (cost l (plan_of_bit z o b) e ≤ cost_of_bit (worst l z) (worst l o) b))
+data Step (l : Line) (z o : Plan) (b : ℕ) (e : Ending) : Type 0 where
+  stays : moves (plan_of_bit z o b) e ≡ false → 1 ≤ right e → cost l (plan_of_bit z o b) e ≤ worst l z → Step l z o b e
+  goes : moves (plan_of_bit z o b) e ≡ true → b ≤ right e → cost l (plan_of_bit z o b) e ≤ cost_of_bit (worst l z) (worst l o) b → Step l z o b e
 
 step : (l : Line) {z o : Plan} → Plans z o → (b : ℕ) {e : Ending} → b ≤ 1 → Allows (plan_of_bit z o b) e → Step l z o b e
-step l sre zero h bare_blind = inr (refl, omega arith, omega arith)
-step l sre (suc b) h correct_sure = inr (refl, omega arith, omega arith)
-step l sdr zero h bare_blind = inr (refl, omega arith, omega arith)
-step l sdr (suc b) h recover_clean = inr (refl, omega arith, omega arith)
-step l sdr (suc b) h recover_sure = inr (refl, omega arith, omega arith)
-step l dre zero h detect_clean = inl (refl, omega arith, omega arith)
-step l dre zero h detect_bad = inr (refl, omega arith, omega arith)
-step l dre (suc b) h correct_sure = inr (refl, omega arith, omega arith)
-step l ddr zero h detect_clean = inl (refl, omega arith, omega arith)
-step l ddr zero h detect_bad = inr (refl, omega arith, omega arith)
-step l ddr (suc b) h recover_clean = inr (refl, omega arith, omega arith)
-step l ddr (suc b) h recover_sure = inr (refl, omega arith, omega arith)
+step l sre zero h bare_blind = goes refl (omega arith) (omega arith)
+step l sre (suc b) h correct_sure = goes refl (omega arith) (omega arith)
+step l sdr zero h bare_blind = goes refl (omega arith) (omega arith)
+step l sdr (suc b) h recover_clean = goes refl (omega arith) (omega arith)
+step l sdr (suc b) h recover_sure = goes refl (omega arith) (omega arith)
+step l dre zero h detect_clean = stays refl (omega arith) (omega arith)
+step l dre zero h detect_bad = goes refl (omega arith) (omega arith)
+step l dre (suc b) h correct_sure = goes refl (omega arith) (omega arith)
+step l ddr zero h detect_clean = stays refl (omega arith) (omega arith)
+step l ddr zero h detect_bad = goes refl (omega arith) (omega arith)
+step l ddr (suc b) h recover_clean = goes refl (omega arith) (omega arith)
+step l ddr (suc b) h recover_sure = goes refl (omega arith) (omega arith)
 
 -- a zero costs least
 least : (l : Line) {z o : Plan} → Plans z o → (b : ℕ) → worst l z ≤ cost_of_bit (worst l z) (worst l o) b
@@ -100,11 +100,11 @@ module _ (l : Line) {z o : Plan} (plans : Plans z o) (s : ℕ) where
   some : 0 < l.k
   some = omega (arith, l.window)
 
-  stays : (q : ℕ) (e : Ending) → moves (pattern_plan z o s l q) e ≡ false → pattern_next z o s l q e ≡ q
-  stays q e h = ap (λ t. cond t ((q + 1) % l.k) q) h
+  unmoved : (q : ℕ) (e : Ending) → moves (pattern_plan z o s l q) e ≡ false → pattern_next z o s l q e ≡ q
+  unmoved q e h = ap (λ t. cond t ((q + 1) % l.k) q) h
 
-  goes : (q : ℕ) (e : Ending) → moves (pattern_plan z o s l q) e ≡ true → pattern_next z o s l q e ≡ (q + 1) % l.k
-  goes q e h = ap (λ t. cond t ((q + 1) % l.k) q) h
+  moved : (q : ℕ) (e : Ending) → moves (pattern_plan z o s l q) e ≡ true → pattern_next z o s l q e ≡ (q + 1) % l.k
+  moved q e h = ap (λ t. cond t ((q + 1) % l.k) q) h
 
   -- the row from the mark after a move is the row from the next place
   on : (f : ℕ → ℕ) (q n : ℕ) → row f l.k ((q + 1) % l.k) n ≡ row f l.k (suc q) n
@@ -117,10 +117,10 @@ module _ (l : Line) {z o : Plan} (plans : Plans z o) (s : ℕ) where
   rights_row q (e ∷ es) r =
       let n = length es in
       let rest = rights_row (pattern_next z o s l q e) es r.1 in
-      ⊎_elim
-      (λ (h : (moves (pattern_plan z o s l q) e ≡ false) × (1 ≤ right e) × (cost l (pattern_plan z o s l q) e ≤ worst l z)). omega (arith, rest, ap (λ i. row b l.k i n) (stays q e h.0), row_last b l.k q n, small ((q + n) % l.k), h.1))
-      (λ (h : (moves (pattern_plan z o s l q) e ≡ true) × (b (q % l.k) ≤ right e) × (cost l (pattern_plan z o s l q) e ≤ c (q % l.k))). omega (arith, rest, ap (λ i. row b l.k i n) (goes q e h.0), on b q n, row_first b l.k q n, h.1))
-      (step l plans (turned_bit l.word l.k s (q % l.k)) (small (q % l.k)) r.0)
+      elim (step l plans (turned_bit l.word l.k s (q % l.k)) (small (q % l.k)) r.0) [
+        | stays m right cost ↦ omega (arith, rest, ap (λ i. row b l.k i n) (unmoved q e m), row_last b l.k q n, small ((q + n) % l.k), right)
+        | goes m right cost ↦ omega (arith, rest, ap (λ i. row b l.k i n) (moved q e m), on b q n, row_first b l.k q n, right)
+      ]
 
   -- it costs no more than the bits in a row
   costs_row : (q : ℕ) (es : List Ending) → Run (pattern_plan z o s l) (pattern_next z o s l) q es → costs (pattern_plan z o s l) (pattern_next z o s l) l q es ≤ row c l.k q (length es)
@@ -129,10 +129,10 @@ module _ (l : Line) {z o : Plan} (plans : Plans z o) (s : ℕ) where
   costs_row q (e ∷ es) r =
       let n = length es in
       let rest = costs_row (pattern_next z o s l q e) es r.1 in
-      ⊎_elim
-      (λ (h : (moves (pattern_plan z o s l q) e ≡ false) × (1 ≤ right e) × (cost l (pattern_plan z o s l q) e ≤ worst l z)). omega (arith, rest, ap (λ i. row c l.k i n) (stays q e h.0), row_last c l.k q n, least l plans (turned_bit l.word l.k s ((q + n) % l.k)), h.2))
-      (λ (h : (moves (pattern_plan z o s l q) e ≡ true) × (turned_bit l.word l.k s (q % l.k) ≤ right e) × (cost l (pattern_plan z o s l q) e ≤ c (q % l.k))). omega (arith, rest, ap (λ i. row c l.k i n) (goes q e h.0), on c q n, row_first c l.k q n, h.2))
-      (step l plans (turned_bit l.word l.k s (q % l.k)) (small (q % l.k)) r.0)
+      elim (step l plans (turned_bit l.word l.k s (q % l.k)) (small (q % l.k)) r.0) [
+        | stays m right cost ↦ omega (arith, rest, ap (λ i. row c l.k i n) (unmoved q e m), row_last c l.k q n, least l plans (turned_bit l.word l.k s ((q + n) % l.k)), cost)
+        | goes m right cost ↦ omega (arith, rest, ap (λ i. row c l.k i n) (moved q e m), on c q n, row_first c l.k q n, cost)
+      ]
 
   pattern_keeps : Keeps l (pattern_plan z o s l) (pattern_next z o s l) (pattern_demand z o l)
   unfolding b c
