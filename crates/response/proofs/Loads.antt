@@ -1,5 +1,6 @@
 -- The load of the lines above never falls as time goes on, and stays small, by what a policy promises.
-use Rattle.std.proofs.Common.{◌≡◌, ℕ, suc, ◌+◌, ◌-◌, ◌≤◌, Bool, true, List, [], ◌∷◌, length, le_trans, le-div_iff_mul-le, div-le_self, div-mul-le_self, arith}
+use Rattle.std.proofs.Common.{◌≡◌, ℕ, suc, ◌+◌, ◌-◌, ◌≤◌, Bool, true, List, [], ◌∷◌, length, take, ap, ◌∙◌, le_trans, le-div_iff_mul-le, div-le_self, div-mul-le_self, arith}
+use Rattle.std.proofs.lemmas.List.{length-take, get_or-take}
 use Rattle.std.proofs.lemmas.List.Sums.{sum_by-cons}
 use Rattle.words.specs.Patterns.{up}
 use Rattle.tasks.specs.declared.line.Line.{Line}
@@ -17,6 +18,12 @@ pub share_small : {takes : Line → Bool} {demand : Line → ℕ → ℕ} → ((
 share_small capped h t taken k =
     let small = jobs_small h t k in
     omega (arith, capped h taken (jobs_by h t) (omega arith))
+
+-- the lines above one are taken too
+pub taken_above : (takes : Line → Bool) (ls : List Line) (n : ℕ) → Taken takes ls (length ls) → Taken takes (take n ls) (length (take n ls))
+taken_above takes ls n taken i d h =
+    let size = length-take n ls in
+    ap takes (get_or-take n ls i d (omega arith)) ∙ taken i d (omega arith)
 
 pub load_rises : {takes : Line → Bool} {demand : Line → ℕ → ℕ} → ((l : Line) → takes l ≡ true → Rising (demand l)) → (above : List Line) (a b : ℕ) → Taken takes above (length above) → a ≤ b → b ≤ 1000000 → load_above demand above a ≤ load_above demand above b
 load_rises rising [] a b taken h k = omega arith

@@ -2,6 +2,9 @@
 use Rattle.std.proofs.Common.{◌≡◌, ℕ, zero, suc, ◌+◌, ◌<◌, ◌≤◌, Bool, true, false, eqb, List, length, get_or, take, set, replicate, sym, refl, ◌∙◌, subst, ⊎_elim, arith, below_more}
 use Rattle.std.proofs.lemmas.List.{length-set, get_or-set_same, get_or-set_other, get_or_read}
 use Rattle.std.proofs.lemmas.Bool.{cases_lt, cases_eq, eqb-false}
+use Rattle.std.specs.Fn.{Called}
+use Rattle.std.specs.Array.{IsFromFnResultFrom}
+use denote.Param.Members.{Mut}
 use Rattle.tasks.specs.declared.line.Line.{Line}
 use Rattle.response.specs.declared.kept.Kept.{Kept}
 use Rattle.response.specs.Figures.{Figure, Figures, Cleared, Taken}
@@ -57,3 +60,13 @@ told_more demand above known i h fresh room within e here told j d l =
     (λ (same : j ≡ i). subst (λ (n : ℕ). Told demand (get_or above n d) (get_or (set known i fresh) n unasked)) (sym same) (rw (get_or-set_same known i fresh unasked room, ← get_or_read above i h within e d) here))
     (λ (other : j ≡ i → ⊥). subst (Told demand (get_or above j d)) (sym (get_or-set_other known i j fresh unasked other)) (told j d l))
     (cases_eq j i)
+
+-- ---- an array made by a closure that no call changes
+pub from_fn_places : {F : Type 0} (g : Mut F (ℕ × Unit {0}) ℕ) (P : ℕ → ℕ → Type 0) (f : F) → ((x r : ℕ) (q : F) → Called g f (x, tt) r q → (q ≡ f) × P x r) → (ys : List ℕ) (i n : ℕ) → IsFromFnResultFrom g f ys i n → (k : ℕ) → i ≤ k → k < i + n → P k (get_or ys k 0)
+from_fn_places g P f gives ys i zero calls k low high = absurd (omega arith)
+from_fn_places g P f gives ys i (suc n) calls k low high =
+    let here = gives i calls.1 calls.0 calls.3 in
+    ⊎_elim
+    (λ (same : k ≡ i). rw (same, calls.2.1 0) here.1)
+    (λ (other : k ≡ i → ⊥). from_fn_places g P f gives ys (i + 1) n (subst (λ h. IsFromFnResultFrom g h ys (i + 1) n) here.0 calls.4) k (omega arith) (omega arith))
+    (cases_eq k i)

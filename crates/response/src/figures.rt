@@ -1,11 +1,13 @@
 // The response figures of a table under a policy.
-ghost use Rattle.std.specs.Prelude.{◌≡◌, ℕ, ◌+◌, ◌≤◌, true, length, Decides, MatchOption};
+ghost use Rattle.std.specs.Prelude.{◌≡◌, ℕ, ◌+◌, ◌<◌, ◌≤◌, true, length, take, slice_index_or, Decides, MatchOption};
+ghost use Rattle.tasks.specs.declared.line.Line.{Line};
 ghost use Rattle.tasks.specs.Tables.{lines_of};
-ghost use Rattle.response.specs.Figures.{limit, Figure, Figures, Admitted, Cleared, Taken, FirstDeclined, Answered};
+ghost use Rattle.response.specs.Figures.{limit, Figure, Figures, Admitted, Answered};
 
-use crate::asks::{demanded, is_taken};
-use crate::kept::{Kept, load_at};
+use crate::asks::Accepted;
+use crate::kept::Kept;
 use policies::policy::Policy;
+use std::array;
 use tasks::line::Line;
 use tasks::refusal::Refusal;
 use tasks::table::Table;
@@ -18,62 +20,40 @@ fn limit(line: &Line) -> u32
     line.period
 }
 
-// The figure of a line. The search goes from t to the load at t: everything between fails, since no demand falls.
-fn figure<P: Policy>(policy: &P, above: &[Line], line: &Line) -> u32
-    requires few { length above.now ≤ 32 }
-    requires above { Taken (P.Policy.takes policy.now) above.now (length above.now) }
-    requires line { P.Policy.takes policy.now line.now ≡ true }
-    ensures { Figure (P.Policy.demand policy.now) above.now line.now result }
-{
-    let own = demanded(policy, line, 1);
-    let mut known = [Kept { jobs: 0, demand: 0 }; 32];
-    let mut t = 1;
-    while t <= limit(line) as u64 {
-        let load = load_at(policy, above, own, &mut known, t as u32);
-        if load <= t {
-            return t as u32;
+impl<P: Policy> Accepted<'_, P> {
+    // The smallest time that passes for the line at a place, if one does. The search goes from t to the load at t:
+    // everything between fails, since no demand falls.
+    fn figure(&self, place: usize) -> Option<u32>
+        ensures line { (l : Line) → place < length self.now.lines.now → MatchOption result (Figure (P.demand self.now.policy.now) (take place self.now.lines.now) (slice_index_or self.now.lines.now place l) 0) (λ t. (1 ≤ t) × Figure (P.demand self.now.policy.now) (take place self.now.lines.now) (slice_index_or self.now.lines.now place l) t) }
+        ensures no_line { length self.now.lines.now ≤ place → result ≡ None }
+    {
+        let line = self.lines.get(place)?;
+        let own = self.demanded(line, 1);
+        let mut known = [Kept { jobs: 0, demand: 0 }; 32];
+        let mut t = 1;
+        while t <= u64::from(limit(line)) {
+            let load = self.load_at(place, own, &mut known, t as u32);
+            if load <= t {
+                return Some(t as u32);
+            }
+            t = load;
         }
-        t = load;
+        None
     }
-    0
-}
 
-// Fills in the figures of the lines.
-fn fill<P: Policy>(policy: &P, lines: &[Line], figures: &mut [u32; 32])
-    requires few { length lines.now ≤ 32 }
-    requires taken { Taken (P.Policy.takes policy.now) lines.now (length lines.now) }
-    requires cleared { Cleared figures.old }
-    ensures { Figures (P.Policy.demand policy.now) lines.now (length lines.now) figures.new }
-{
-    for (i, line) in lines.iter().enumerate() {
-        figures[i] = figure(policy, &lines[0..i], line);
+    // 32 places with the figures of the lines.
+    fn places(&self) -> [u32; 32]
+        ensures { Figures (P.demand self.now.policy.now) self.now.lines.now (length self.now.lines.now) result }
+    {
+        array::from_fn(|place| self.figure(place).unwrap_or(0))
     }
-}
 
-// Whether none of the first n figures is 0.
-fn is_admitted(figures: &[u32; 32], n: usize) -> bool
-    requires { n ≤ 32 }
-    ensures { Decides result (Admitted n figures.now) }
-{
-    for i in 0..n {
-        if figures[i] == 0 {
-            return false;
-        }
+    // Whether no figure of the lines is 0.
+    fn is_admitted(&self, figures: &[u32; 32]) -> bool
+        ensures { Decides result (Admitted (length self.now.lines.now) figures.now) }
+    {
+        !figures[..self.lines.len()].contains(&0)
     }
-    true
-}
-
-// The number of the first line that the policy declines.
-fn first_declined<P: Policy>(policy: &P, lines: &[Line]) -> Option<u32>
-    requires { length lines.now ≤ 32 }
-    ensures { MatchOption result (Taken (P.Policy.takes policy.now) lines.now (length lines.now)) (λ n. FirstDeclined (P.Policy.takes policy.now) lines.now n) }
-{
-    for (i, line) in lines.iter().enumerate() {
-        if !is_taken(policy, line) {
-            return Some(i as u32 + 1);
-        }
-    }
-    None
 }
 
 // Fills 32 places with the figures of a table's lines, and tells whether the table is admitted: no figure of its
@@ -83,18 +63,16 @@ pub fn figures<P: Policy>(
     table: &Table,
     figures: &mut [u32; 32],
 ) -> Result<bool, Refusal>
-    ensures { Answered (P.Policy.takes policy.now) (P.Policy.demand policy.now) (lines_of table.now) figures.new result }
+    ensures { Answered (P.takes policy.now) (P.demand policy.now) (lines_of table.now) figures.new result }
 {
     *figures = [0; 32];
     let lines = table.lines();
     if lines.is_empty() {
         return Err(Refusal::NoLines);
     }
-    if let Some(line) = first_declined(policy, lines) {
-        return Err(Refusal::Declined { line });
-    }
-    fill(policy, lines, figures);
-    Ok(is_admitted(figures, lines.len()))
+    let accepted = Accepted::new(policy, lines)?;
+    *figures = accepted.places();
+    Ok(accepted.is_admitted(figures))
 }
 
 #[cfg(test)]
