@@ -1,10 +1,10 @@
--- The load of the lines above never falls as time goes on, and stays small, by what a policy promises.
+-- The load of the lines above never falls as time goes on, by what a policy promises.
 use Rattle.std.proofs.Common.{◌≡◌, ℕ, suc, ◌+◌, ◌-◌, ◌≤◌, Bool, true, List, [], ◌∷◌, length, take, ap, ◌∙◌, le_trans, le-div_iff_mul-le, div-le_self, div-mul-le_self, arith}
 use Rattle.std.proofs.lemmas.List.{length-take, get_or-take}
 use Rattle.std.proofs.lemmas.List.Sums.{sum_by-cons}
 use Rattle.words.specs.Patterns.{up}
 use Rattle.tasks.specs.declared.line.Line.{Line}
-use Rattle.policies.specs.Promises.{Rising, Capped}
+use Rattle.policies.specs.Promises.{Rising}
 use Rattle.response.specs.Figures.{jobs_by, load_above, Taken}
 
 up_rises : (a b p : ℕ) → 1 ≤ p → a ≤ b → up a p ≤ up b p
@@ -12,12 +12,6 @@ up_rises a b p pos h = (le-div_iff_mul-le pos).1 (le_trans (div-mul-le_self (a +
 
 jobs_small : (h : Line) (t : ℕ) → t ≤ 1000000 → jobs_by h t ≤ 2000000
 jobs_small h t k = omega (arith, div-le_self (t + (h.period - 1)) h.period, h.ordered)
-
--- one line's demand up to t
-pub share_small : {takes : Line → Bool} {demand : Line → ℕ → ℕ} → ((l : Line) → takes l ≡ true → Capped (demand l)) → (h : Line) (t : ℕ) → takes h ≡ true → t ≤ 1000000 → demand h (jobs_by h t) ≤ 4000000000000
-share_small capped h t taken k =
-    let small = jobs_small h t k in
-    omega (arith, capped h taken (jobs_by h t) (omega arith))
 
 -- the lines above one are taken too
 pub taken_above : (takes : Line → Bool) (ls : List Line) (n : ℕ) → Taken takes ls (length ls) → Taken takes (take n ls) (length (take n ls))

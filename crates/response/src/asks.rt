@@ -2,11 +2,13 @@
 ghost use Rattle.std.specs.Prelude.{◌≡◌, ℕ, ◌*◌, ◌≤◌, true, length, MatchResult};
 ghost use Rattle.policies.specs.Promises.{most_per_job};
 ghost use Rattle.tasks.specs.declared.refusal.Refusal.TheVariants.{Declined};
+ghost use Rattle.tasks.specs.Tables.{lines_of};
 ghost use Rattle.response.specs.Figures.{Taken, FirstDeclined};
 
 use policies::policy::Policy;
 use tasks::line::Line;
 use tasks::refusal::Refusal;
+use tasks::table::Table;
 
 // Lines, highest priority first, each of which the policy takes.
 #[derive(Drop)]
@@ -18,11 +20,11 @@ pub(crate) struct Accepted<'a, P: Policy> {
 }
 
 impl<'a, P: Policy> Accepted<'a, P> {
-    // All the lines, or a refusal with the number of the first that the policy declines.
-    pub(crate) fn new(policy: &'a P, lines: &'a [Line]) -> Result<Self, Refusal>
-        requires { length lines.now ≤ 32 }
-        ensures { MatchResult result (λ a. (a.policy.now ≡ policy.now) × (a.lines.now ≡ lines.now)) (λ e. (n : ℕ) × (e ≡ Declined n) × FirstDeclined (P.takes policy.now) lines.now n) }
+    // A table's lines, or a refusal with the number of the first that the policy declines.
+    pub(crate) fn new(policy: &'a P, table: &'a Table) -> Result<Self, Refusal>
+        ensures { MatchResult result (λ a. (a.policy.now ≡ policy.now) × (a.lines.now ≡ lines_of table.now)) (λ e. (n : ℕ) × (e ≡ Declined n) × FirstDeclined (P.takes policy.now) (lines_of table.now) n) }
     {
+        let lines = table.lines();
         match lines.iter().position(|line| !policy.accepts(line)) {
             Some(i) => Err(Refusal::Declined { line: i as u32 + 1 }),
             None => Ok(Accepted { policy, lines }),

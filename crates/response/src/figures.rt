@@ -1,5 +1,5 @@
 // The response figures of a table under a policy.
-ghost use Rattle.std.specs.Prelude.{◌≡◌, ℕ, ◌+◌, ◌<◌, ◌≤◌, true, length, take, slice_index_or, Decides, MatchOption};
+ghost use Rattle.std.specs.Prelude.{◌≡◌, ℕ, ◌+◌, ◌<◌, ◌≤◌, true, length, take, slice_index_or, unwrap_or, Decides, IfSome};
 ghost use Rattle.tasks.specs.declared.line.Line.{Line};
 ghost use Rattle.tasks.specs.Tables.{lines_of};
 ghost use Rattle.response.specs.Figures.{limit, Figure, Figures, Admitted, Answered};
@@ -24,7 +24,8 @@ impl<P: Policy> Accepted<'_, P> {
     // The smallest time that passes for the line at a place, if one does. The search goes from t to the load at t:
     // everything between fails, since no demand falls.
     fn figure(&self, place: usize) -> Option<u32>
-        ensures line { (l : Line) → place < length self.now.lines.now → MatchOption result (Figure (P.demand self.now.policy.now) (take place self.now.lines.now) (slice_index_or self.now.lines.now place l) 0) (λ t. (1 ≤ t) × Figure (P.demand self.now.policy.now) (take place self.now.lines.now) (slice_index_or self.now.lines.now place l) t) }
+        ensures figure { (l : Line) → place < length self.now.lines.now → Figure (P.demand self.now.policy.now) (take place self.now.lines.now) (slice_index_or self.now.lines.now place l) (unwrap_or result 0) }
+        ensures passes { IfSome result (λ t. 1 ≤ t) }
         ensures no_line { length self.now.lines.now ≤ place → result ≡ None }
     {
         let line = self.lines.get(place)?;
@@ -41,7 +42,7 @@ impl<P: Policy> Accepted<'_, P> {
         None
     }
 
-    // 32 places with the figures of the lines.
+    // 32 places with the figures of the lines; 0 stands where no time passes, and past the lines.
     fn places(&self) -> [u32; 32]
         ensures { Figures (P.demand self.now.policy.now) self.now.lines.now (length self.now.lines.now) result }
     {
@@ -66,11 +67,10 @@ pub fn figures<P: Policy>(
     ensures { Answered (P.takes policy.now) (P.demand policy.now) (lines_of table.now) figures.new result }
 {
     *figures = [0; 32];
-    let lines = table.lines();
-    if lines.is_empty() {
+    if table.lines().is_empty() {
         return Err(Refusal::NoLines);
     }
-    let accepted = Accepted::new(policy, lines)?;
+    let accepted = Accepted::new(policy, table)?;
     *figures = accepted.places();
     Ok(accepted.is_admitted(figures))
 }
@@ -104,24 +104,32 @@ mod tests {
         Some(table)
     }
 
-    // The first two places, and the number and the line of the refusal, or 0 and 1 for admitted, 0 and 0 for not.
-    fn figures_of(table: Option<Table>) -> [u32; 4] {
+    // The first two places, and whether the table is admitted, or the number and the line of the refusal.
+    fn figures_of(table: Option<Table>) -> Option<([u32; 2], Result<bool, (u32, u32)>)> {
         let mut places = [7; 32];
-        let Some(table) = table else {
-            return [0; 4];
-        };
-        match figures(&ByLine {}, &table, &mut places) {
-            Ok(admitted) => [places[0], places[1], 0, u32::from(admitted)],
-            Err(refusal) => [places[0], places[1], refusal.number(), refusal.line()],
-        }
+        let answer = figures(&ByLine {}, &table?, &mut places);
+        let told = answer.map_err(|refusal| (refusal.number(), refusal.line()));
+        Some(([places[0], places[1]], told))
     }
 
     #[test]
     fn cameras_and_arms(rt: HostRuntime) {
-        assert_eq!(rt; figures_of(cameras(Technique::Sre, 10, 20)), [20, 80, 0, 1]);
-        assert_eq!(rt; figures_of(cameras(Technique::Sre, 12, 20)), [20, 0, 0, 0]);
-        assert_eq!(rt; figures_of(cameras(Technique::Dre, 10, 20)), [20, 0, 0, 0]);
-        assert_eq!(rt; figures_of(cameras(Technique::Sdr, 10, 30)), [0, 0, 8, 1]);
-        assert_eq!(rt; figures_of(Some(Table::new())), [0, 0, 9, 0]);
+        assert_eq!(rt;
+            figures_of(cameras(Technique::Sre, 10, 20)),
+            Some(([20, 80], Ok(true)))
+        );
+        assert_eq!(rt;
+            figures_of(cameras(Technique::Sre, 12, 20)),
+            Some(([20, 0], Ok(false)))
+        );
+        assert_eq!(rt;
+            figures_of(cameras(Technique::Dre, 10, 20)),
+            Some(([20, 0], Ok(false)))
+        );
+        assert_eq!(rt;
+            figures_of(cameras(Technique::Sdr, 10, 30)),
+            Some(([0, 0], Err((8, 1))))
+        );
+        assert_eq!(rt; figures_of(Some(Table::new())), Some(([0, 0], Err((9, 0)))));
     }
 }

@@ -1,7 +1,6 @@
-use Rattle.std.proofs.Common.{◌<◌, ◌≤◌, take, ⊎_elim, subst, arith}
+use Rattle.std.proofs.Common.{◌<◌, ◌≤◌, take, ⊎_elim, arith}
 use Rattle.std.proofs.lemmas.Bool.{cases_lt}
-use Rattle.tasks.specs.declared.line.Line.{Line}
-use Rattle.response.specs.Figures.{Figure, smallest, none}
+use Rattle.response.specs.Figures.{smallest, none}
 use Rattle.response.proofs.Loads.{taken_above, load_rises}
 use Rattle.response.proofs.Places.{told_none}
 use Rattle.response.proofs.asks.Accepted.figure.Goals as goal
@@ -15,12 +14,9 @@ loop-t-init g c =
       told = told_none (g.P.Policy.takes p) (g.P.Policy.demand p) (g.met.P.Policy.none p) c.args.self.now.lines.now c.args.self.now.taken;
     }
 
-pub returns-then-load-t-clause-line : goal.returns-then-load-t-clause-line
-returns-then-load-t-clause-line g c l within = (
-  c.loop-t.invariant.started,
-  subst (λ (x : Line). Figure (g.P.Policy.demand c.args.self.now.policy.now) (take c.args.place c.args.self.now.lines.now) x c.loop-t.t) (c.in_ok-line.ensures.lookup.3.1 l)
-  (smallest c.loop-t.invariant.started (omega (arith, c.limit.ensures.is)) (omega (arith, c.load_at-load.ensures.is, c.demanded-own.ensures.is)) (λ s one below passes. c.loop-t.invariant.failed s one below (omega (arith, c.limit.ensures.is)) passes)),
-)
+pub returns-then-load-t-clause-figure : goal.returns-then-load-t-clause-figure
+returns-then-load-t-clause-figure g c l within =
+    rw (← c.in_ok-line.ensures.lookup.3.1 l) (smallest c.loop-t.invariant.started (omega (arith, c.limit.ensures.is)) (omega (arith, c.load_at-load.ensures.is, c.demanded-own.ensures.is)) (λ s one below passes. c.loop-t.invariant.failed s one below (omega (arith, c.limit.ensures.is)) passes))
 
 pub loop-t-preserved : goal.loop-t-preserved
 loop-t-preserved g c =
@@ -36,7 +32,6 @@ loop-t-preserved g c =
       told = c.load_at-load.ensures.told;
     }
 
-pub returns-clause-line : goal.returns-clause-line
-returns-clause-line g c l within =
-    subst (λ (x : Line). Figure (g.P.Policy.demand c.args.self.now.policy.now) (take c.args.place c.args.self.now.lines.now) x 0) (c.in_ok-line.ensures.lookup.3.1 l)
-    (none (λ s one within passes. c.loop-t.invariant.failed s one (omega (arith, c.limit.ensures.is)) within passes))
+pub returns-clause-figure : goal.returns-clause-figure
+returns-clause-figure g c l within =
+    rw (← c.in_ok-line.ensures.lookup.3.1 l) (none (λ s one within passes. c.loop-t.invariant.failed s one (omega (arith, c.limit.ensures.is)) within passes))

@@ -1,4 +1,4 @@
-use Rattle.std.proofs.Common.{◌≡◌, ◌+◌, ◌*◌, ◌≤◌, length, take}
+use Rattle.std.proofs.Common.{◌≡◌, ◌+◌, ◌*◌, ◌≤◌, take}
 use Rattle.policies.specs.Promises.{most_per_job}
 use Rattle.response.specs.Figures.{load_above}
 use Rattle.response.specs.Told.{AllTold}
@@ -8,6 +8,5 @@ abbrev pub invariant-loop-i : goal.invariant-loop-i
 invariant-loop-i g l = record {
   sum : l.load ≡ l.own + load_above (g.P.Policy.demand l.self.policy.now) (take l.i l.self.lines.now) l.t;
   small : l.load ≤ most_per_job + 4000000000000 * l.i;
-  size : length l.known ≡ 32;
   told : AllTold (g.P.Policy.demand l.self.policy.now) l.self.lines.now l.known;
 }

@@ -2,7 +2,7 @@ use Rattle.std.proofs.Common.{rules, ℕ, ◌≤◌, ◌<◌, ◌≡◌, take, l
 use Rattle.std.proofs.lemmas.List.{get_or_past}
 use Rattle.std.proofs.lemmas.Bool.{cases_lt}
 use Rattle.tasks.specs.declared.line.Line.{Line}
-use Rattle.response.specs.Figures.{Figure, Figures}
+use Rattle.response.specs.Figures.{Figure}
 use Rattle.response.proofs.Places.{from_fn_places}
 use Rattle.response.proofs.asks.Accepted.places.Goals as goal
 
