@@ -10,8 +10,6 @@ use Rattle.tasks.specs.Tables.{lines_of, Numbered}
 use Rattle.policies.specs.Promises.{Meaning}
 use Rattle.response.proofs.Single.{neither_below, answered_one}
 use Rattle.engine.specs.declared.state.OpenJob.{OpenJob}
-use Rattle.engine.specs.declared.state.Job.{Job}
-use Rattle.engine.specs.declared.state.Job.TheVariants.{Closed, Open}
 use Rattle.engine.specs.Status.{Status}
 use Rattle.engine.specs.Steps.{opened, closed, Opening, already_open, unfit, opens, OfTask, no_table, no_task, of_line, Rested, ReleaseOn, early, still_open, starts, Release, CountsAsked, FigureAsked, Quiet, Turn, TickOn, idles, no_job, unheard, runs, Tick, unopened, spent, ticks, Sole}
 
@@ -56,7 +54,7 @@ shut_clash : {o : Option (List Line)} {ls : List Line} → o ≡ None → o ≡ 
 shut_clash p q = let z : ◌≡◌ {A = ℕ} 0 1 = cc in omega arith
 
 -- no job is closed and open
-job_clash : {j : Job} {o : OpenJob} → j ≡ Closed → j ≡ Open o → ⊥
+job_clash : {j : Option OpenJob} {o : OpenJob} → j ≡ None → j ≡ Some o → ⊥
 job_clash p q = let z : ◌≡◌ {A = ℕ} 0 1 = cc in omega arith
 
 -- one refusal tells x; it leaves the status

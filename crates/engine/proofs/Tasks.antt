@@ -34,15 +34,15 @@ task_at ts zero h = absurd (omega (arith, h))
 task_at ts (suc i) h = let e : i ≡ suc i - 1 = omega arith in ap (λ k. get_or ts k unused) e
 
 -- one record replaced, by its number
-pub task_set : (ts : List Task) (n : ℕ) (t : Task) → 1 ≤ n → n - 1 < length ts → task_of (set ts (n - 1) t) ≡ put n t (task_of ts)
-task_set ts n t pos room = λ i k. at k i
+pub task_set : (ts : List Task) (n i : ℕ) (t : Task) → 1 ≤ n → i ≡ n - 1 → i < length ts → task_of (set ts i t) ≡ put n t (task_of ts)
+task_set ts n i t pos is room = λ j k. at k j
   where
-    at : (k : ℕ) → task_of (set ts (n - 1) t) k ≡ put n t (task_of ts) k
+    at : (k : ℕ) → task_of (set ts i t) k ≡ put n t (task_of ts) k
     at zero = sym (cond-false (eqb 0 n) t unused (ne_eqb 0 n (λ (e : 0 ≡ n). omega arith)))
     at (suc j) = ⊎_elim
         (λ (e : suc j ≡ n).
-        let place : n - 1 ≡ j = omega arith in
-        ap (λ x. get_or (set ts (n - 1) t) x unused) (sym place) ∙ get_or-set_same ts (n - 1) t unused room ∙ sym (cond-true (eqb (suc j) n) t (get_or ts j unused) (eq-eqb (suc j) n e)))
+        let place : i ≡ j = omega arith in
+        ap (λ x. get_or (set ts i t) x unused) (sym place) ∙ get_or-set_same ts i t unused room ∙ sym (cond-true (eqb (suc j) n) t (get_or ts j unused) (eq-eqb (suc j) n e)))
         (λ (ne : suc j ≡ n → ⊥).
-        get_or-set_other ts (n - 1) j t unused (λ (e : j ≡ n - 1). ne (omega arith)) ∙ sym (cond-false (eqb (suc j) n) t (get_or ts j unused) (ne_eqb (suc j) n ne)))
+        get_or-set_other ts i j t unused (λ (e : j ≡ i). ne (omega arith)) ∙ sym (cond-false (eqb (suc j) n) t (get_or ts j unused) (ne_eqb (suc j) n ne)))
         (cases_eq (suc j) n)

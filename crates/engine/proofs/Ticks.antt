@@ -1,7 +1,8 @@
 -- A tick, told by the records of the tasks at their places.
-use Rattle.std.proofs.Common.{◌≡◌, ℕ, zero, suc, ◌+◌, ◌-◌, ◌<◌, ◌≤◌, List, length, get_or, take, set, Some, Ok, sym, refl, ap, ◌∙◌, subst, ⊎_elim, arith}
-use Rattle.std.proofs.lemmas.List.{get_or-take, get_or_past, length-take}
-use Rattle.std.proofs.lemmas.Bool.{cases_lt}
+use Rattle.std.proofs.Common.{◌≡◌, ℕ, zero, suc, ◌+◌, ◌-◌, ◌<◌, ◌≤◌, true, false, not, ◌⊎◌, List, [], ◌∷◌, length, get_or, take, set, None, Some, Ok, Err, Option, sym, refl, ap, ◌∙◌, subst, inl, inr, ⊎_elim, arith}
+use denote.Enum.Bare.{sameb}
+use Rattle.std.proofs.lemmas.List.{get_or_default, get_or-take, get_or_past, length-take}
+use Rattle.std.proofs.lemmas.Bool.{cases_eq, cases_lt}
 use Rattle.std.proofs.lemmas.Bool.Decides.{nat_tests}
 use Rattle.tasks.specs.declared.line.Line.{Line}
 use Rattle.tasks.specs.declared.job.Plan.{Plan}
@@ -10,15 +11,21 @@ use Rattle.tasks.specs.declared.job.Version.{Version}
 use Rattle.tasks.specs.declared.job.Version.TheVariants.{Bare, Detect, Correct}
 use Rattle.tasks.specs.declared.job.Outcome.{Outcome}
 use Rattle.tasks.specs.declared.job.Outcome.TheVariants.{Idle, On, Again, Ended}
+use Rattle.tasks.specs.declared.refusal.Refusal.TheVariants.{TickWord}
+use Rattle.tasks.specs.Tables.{Numbered}
 use Rattle.policies.specs.Promises.{Meaning}
+use Rattle.engine.specs.contracts.word.Word.{the_type}
+use Rattle.engine.specs.declared.word.Word.{Word}
+use Rattle.engine.specs.declared.word.Word.TheVariants.{GoesOn, Fault}
+use Rattle.engine.specs.declared.word.Word.TheVariants as word
 use Rattle.engine.specs.declared.state.OpenJob.{OpenJob}
-use Rattle.engine.specs.declared.state.Job.TheVariants.{Closed, Open}
 use Rattle.engine.specs.declared.state.Task.{Task}
 use Rattle.engine.specs.declared.state.State.{State}
 use Rattle.engine.specs.Jobs.{unused, heard, faulted, task_after}
+use Rattle.engine.specs.Words.{said_by}
 use Rattle.engine.specs.Kept.{busy, left, Fair}
 use Rattle.engine.specs.Status.{Status, open_lines, task_of, put, status_of, most_ticks}
-use Rattle.engine.specs.Steps.{Quiet, Turn, later, Tick, runs, ticks}
+use Rattle.engine.specs.Steps.{Quiet, Turn, later, Tick, no_job, unheard, runs, ticks}
 use Rattle.engine.specs.Lookups.{FirstOpen}
 use Rattle.engine.proofs.Tasks.{task_at, task_set}
 use Rattle.engine.proofs.Found.{status_eq}
@@ -30,7 +37,7 @@ module _ (s : State) (ls : List Line) (n : ℕ) (count : n ≡ length ls) where
   among : (k : ℕ) → 1 ≤ k → k ≤ n → task_of s.tasks k ≡ get_or (take n s.tasks) (k - 1) unused
   among k pos below = task_at s.tasks k pos ∙ sym (get_or-take n s.tasks (k - 1) unused (omega arith))
 
-  pub all_quiet : ((k : ℕ) → k < length (take n s.tasks) → (get_or (take n s.tasks) k unused).job ≡ Closed) → Quiet (status_of s) ls
+  pub all_quiet : ((k : ℕ) → k < length (take n s.tasks) → (get_or (take n s.tasks) k unused).job ≡ None) → Quiet (status_of s) ls
   all_quiet closed k is = ap (λ (t : Task). t.job) (among k is.0 (omega (arith, is.1))) ∙ ⊎_elim
       (closed (k - 1))
       (λ past. ap (λ (t : Task). t.job) (get_or_past (take n s.tasks) (k - 1) unused past))
@@ -42,15 +49,61 @@ module _ (s : State) (ls : List Line) (n : ℕ) (count : n ≡ length ls) where
       let back : place ≡ place + 1 - 1 = omega arith in
       record {
         line = ((omega arith, omega arith), subst (λ (i : ℕ). l ≡ get_or ls i l) back line);
-        job = ap (λ (t : Task). t.job) (among (place + 1) (omega arith) (omega arith)) ∙ subst (λ (i : ℕ). (get_or (take n s.tasks) i unused).job ≡ Open o) back f.job;
+        job = ap (λ (t : Task). t.job) (among (place + 1) (omega arith) (omega arith)) ∙ subst (λ (i : ℕ). (get_or (take n s.tasks) i unused).job ≡ Some o) back f.job;
         first = λ k pos below. ap (λ (t : Task). t.job) (among k pos (omega arith)) ∙ f.before (k - 1) (omega arith);
       }
 
+-- a number up to the count of lines has a line
+numbered_at : (ls : List Line) (n : ℕ) → 1 ≤ n → n ≤ length ls → (l : Line) × Numbered ls n l
+numbered_at [] n pos le = absurd (omega arith)
+numbered_at (d ∷ ls) n pos le = (get_or (d ∷ ls) (n - 1) d, ((pos, le), get_or_default (d ∷ ls) (n - 1) d (get_or (d ∷ ls) (n - 1) d) (omega arith)))
+
 -- the record at its place has the job
-pub turn_job : (s : State) (ls : List Line) (place : ℕ) (l : Line) (o : OpenJob) → Turn (status_of s) ls (place + 1) l o → (get_or s.tasks place unused).job ≡ Open o
+pub turn_job : (s : State) (ls : List Line) (place : ℕ) (l : Line) (o : OpenJob) → Turn (status_of s) ls (place + 1) l o → (get_or s.tasks place unused).job ≡ Some o
 turn_job s ls place l o turn =
     let back : place ≡ place + 1 - 1 = omega arith in
     ap (λ i. (get_or s.tasks i unused).job) back ∙ ap (λ (t : Task). t.job) (sym (task_at s.tasks (place + 1) (omega arith))) ∙ turn.job
+
+-- ---- a tick that no job hears
+
+-- the first number from 1 to n where f is something, if there is one
+first_among : (f : ℕ → Option OpenJob) (n : ℕ) → ((k : ℕ) → 1 ≤ k → k ≤ n → f k ≡ None) ⊎ ((k : ℕ) × (o : OpenJob) × (1 ≤ k) × (k ≤ n) × (f k ≡ Some o) × ((j : ℕ) → 1 ≤ j → j < k → f j ≡ None))
+first_among f zero = inl (λ k pos le. absurd (omega arith))
+first_among f (suc n) = ⊎_elim
+    (λ (none : (k : ℕ) → 1 ≤ k → k ≤ n → f k ≡ None). by_last none (f (suc n)) refl)
+    (λ (k, o, pos, le, job, before). inr (k, o, pos, omega arith, job, before))
+    (first_among f n)
+  where
+    by_last : ((k : ℕ) → 1 ≤ k → k ≤ n → f k ≡ None) → (j : Option OpenJob) → f (suc n) ≡ j
+        → ((k : ℕ) → 1 ≤ k → k ≤ suc n → f k ≡ None) ⊎ ((k : ℕ) × (o : OpenJob) × (1 ≤ k) × (k ≤ suc n) × (f k ≡ Some o) × ((j : ℕ) → 1 ≤ j → j < k → f j ≡ None))
+    by_last none None e = inl (λ k pos le. ⊎_elim (λ (is : k ≡ suc n). ap f is ∙ e) (λ (ne : k ≡ suc n → ⊥). none k pos (omega arith)) (cases_eq k (suc n)))
+    by_last none (Some o) e = inr (suc n, o, omega arith, omega arith, e, λ j pos less. none j pos (omega arith))
+
+heard_none : (o : OpenJob) (word : ℕ) → 2 < word → heard o word ≡ None
+heard_none o zero h = absurd (omega arith)
+heard_none o (suc zero) h = absurd (omega arith)
+heard_none o (suc (suc zero)) h = absurd (omega arith)
+heard_none o (suc (suc (suc n))) h = refl
+
+-- a word above 2 is refused, whether a job is open or not
+pub unsaid : (m : Meaning) (st : Status) (ls : List Line) (word : ℕ) → st.lines ≡ Some ls → st.ticks < most_ticks → 2 < word → Tick m st word (Err TickWord) st
+unsaid m st ls word there more high = ⊎_elim
+    (λ (none : (k : ℕ) → 1 ≤ k → k ≤ length ls → (st.task k).job ≡ None). ticks there more (no_job refl (λ k is. none k is.0 is.1) (omega arith)))
+    (λ (k, o, pos, le, job, before).
+    let line = numbered_at ls k pos le in
+    ticks there more (unheard refl (record { line = line.1; job = job; first = before }) (heard_none o word high)))
+    (first_among (λ k. (st.task k).job) (length ls))
+
+-- a word tested for `GoesOn`
+pub goes_on : (w : Word) → false ≡ not (sameb the_type w GoesOn) → said_by w ≡ 0
+goes_on GoesOn e = refl
+goes_on word.Ended e = let z : ◌≡◌ {A = ℕ} 0 1 = cc in absurd (omega arith)
+goes_on Fault e = let z : ◌≡◌ {A = ℕ} 0 1 = cc in absurd (omega arith)
+
+pub goes_not : (w : Word) → true ≡ not (sameb the_type w GoesOn) → 0 < said_by w
+goes_not GoesOn e = let z : ◌≡◌ {A = ℕ} 0 1 = cc in absurd (omega arith)
+goes_not word.Ended e = omega arith
+goes_not Fault e = omega arith
 
 -- ---- a tick to that job
 
@@ -65,7 +118,7 @@ module _ (m : Meaning) (s : State) (ls : List Line) (there : open_lines s.setup 
       let new : Task → Task = λ t. task_after m l t o x in
       let step : Tick m was word (Ok (n, x)) (later was (put n (new (was.task n)) was.task)) = ticks there more (runs turn says) in
       let records : put n (new (was.task n)) was.task ≡ task_of (set s.tasks place (new (get_or s.tasks place unused))) =
-      ap (λ (t : Task). put n (new t) was.task) at ∙ sym (task_set s.tasks n (new (get_or s.tasks place unused)) (omega arith) (omega arith)) ∙ ap (λ i. task_of (set s.tasks i (new (get_or s.tasks place unused)))) back in
+      ap (λ (t : Task). put n (new t) was.task) at ∙ sym (task_set s.tasks n place (new (get_or s.tasks place unused)) (omega arith) (sym back) room) in
       subst (Tick m was word (Ok (n, x))) (status_eq (later was (put n (new (was.task n)) was.task)) _ refl refl refl records) step
 
 -- ---- what is left after a tick
@@ -86,7 +139,7 @@ on_left o (suc (suc zero)) e = absurd (not_on o.version o.plan e)
 on_left o (suc (suc (suc n))) e = let z : ◌≡◌ {A = ℕ} 0 1 = cc in absurd (omega arith)
 
 -- the record of a task is fair after a tick to its job
-pub after_fair : (m : Meaning) (now : ℕ) (l : Line) (t : Task) (o : OpenJob) (x : Outcome) (word : ℕ) → heard o word ≡ Some x → t.job ≡ Open o → Fair now t → Fair (now + 1) (task_after m l t o x)
+pub after_fair : (m : Meaning) (now : ℕ) (l : Line) (t : Task) (o : OpenJob) (x : Outcome) (word : ℕ) → heard o word ≡ Some x → t.job ≡ Some o → Fair now t → Fair (now + 1) (task_after m l t o x)
 after_fair m now l t o Idle word e j f = omega (arith, ap busy j, ap left j)
 after_fair m now l t o On word e j f = let h = on_left o word e in omega (arith, ap busy j, ap left j)
 after_fair m now l t o Again word e j f = omega (arith, l.ordered, ap busy j)

@@ -12,18 +12,16 @@ use Rattle.tasks.specs.declared.job.Outcome.TheVariants.{Idle, On, Again, Ended}
 use Rattle.tasks.specs.Lines.{time}
 use Rattle.policies.specs.Promises.{Meaning}
 use Rattle.engine.specs.declared.state.OpenJob.{OpenJob}
-use Rattle.engine.specs.declared.state.Job.{Job}
-use Rattle.engine.specs.declared.state.Job.TheVariants.{Closed, Open}
 use Rattle.engine.specs.declared.state.Task.{Task}
 
 -- whether there is an open job
-abbrev pub is_open : Job → Bool
-is_open Closed = false
-is_open (Open o) = true
+abbrev pub is_open : Option OpenJob → Bool
+is_open None = false
+is_open (Some o) = true
 
 -- a task that was never released
 abbrev pub unused : Task
-unused = record { mark = 0; releases = 0; ends = 0; last = 0; job = Closed }
+unused = record { mark = 0; releases = 0; ends = 0; last = 0; job = None }
 
 -- the first version of a plan
 abbrev pub first : Plan → Version
@@ -73,18 +71,18 @@ ran l o None = o
 ran l o (Some x) = running_after l o x
 
 -- the job after a tick that came out so
-abbrev pub job_after : Line → OpenJob → Outcome → Job
-job_after l o Idle = Open (running_after l o Idle)
-job_after l o On = Open (running_after l o On)
-job_after l o Again = Open (running_after l o Again)
-job_after l o (Ended e) = Closed
+abbrev pub job_after : Line → OpenJob → Outcome → Option OpenJob
+job_after l o Idle = Some (running_after l o Idle)
+job_after l o On = Some (running_after l o On)
+job_after l o Again = Some (running_after l o Again)
+job_after l o (Ended e) = None
 
 -- the record with another job
-abbrev pub with_job : Task → Job → Task
+abbrev pub with_job : Task → Option OpenJob → Task
 with_job t j = record { mark = t.mark; releases = t.releases; ends = t.ends; last = t.last; job = j }
 
 -- the record of a task that is released after `now` ticks
-abbrev pub released : Task → ℕ → Job → Task
+abbrev pub released : Task → ℕ → Option OpenJob → Task
 released t now j = record { mark = t.mark; releases = t.releases + 1; ends = t.ends; last = now; job = j }
 
 -- the record of a task after a tick to its open job: an end counts, and moves the mark by the policy

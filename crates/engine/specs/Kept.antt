@@ -1,18 +1,17 @@
 -- What every engine keeps from call to call, so that no count overflows and an open job has a tick left.
-use Rattle.std.specs.Prelude.{ℕ, ◌+◌, ◌≤◌}
-use Rattle.engine.specs.declared.state.Job.{Job}
-use Rattle.engine.specs.declared.state.Job.TheVariants.{Closed, Open}
+use Rattle.std.specs.Prelude.{ℕ, ◌+◌, ◌≤◌, Some, None, Option}
+use Rattle.engine.specs.declared.state.OpenJob.{OpenJob}
 use Rattle.engine.specs.declared.state.Task.{Task}
 
 -- how many jobs are open: none or one
-abbrev pub busy : Job → ℕ
-busy Closed = 0
-busy (Open o) = 1
+abbrev pub busy : Option OpenJob → ℕ
+busy None = 0
+busy (Some o) = 1
 
 -- the ticks left to it
-abbrev pub left : Job → ℕ
-left Closed = 0
-left (Open o) = o.left
+abbrev pub left : Option OpenJob → ℕ
+left None = 0
+left (Some o) = o.left
 
 -- the most ticks that a version has
 abbrev pub most_left : ℕ

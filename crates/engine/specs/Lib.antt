@@ -1,4 +1,5 @@
 pub mod Jobs
+pub mod Words
 pub mod Status
 pub mod Steps
 pub mod Lookups

@@ -1,5 +1,5 @@
 -- The status of an engine: what its calls go by.
-use Rattle.std.specs.Prelude.{ℕ, zero, suc, Bool, true, false, cond, List, replicate, Some, None, Option, ◌==◌, slice_index_or}
+use Rattle.std.specs.Prelude.{ℕ, zero, suc, cond, List, replicate, Some, None, Option, ◌==◌, slice_index_or}
 use Rattle.tasks.specs.declared.line.Line.{Line}
 use Rattle.tasks.specs.Tables.{lines_of}
 use Rattle.engine.specs.declared.state.Task.{Task}
@@ -32,14 +32,15 @@ put n x f k = cond (k == n) x (f k)
 
 -- ---- the status that an engine's state holds
 
--- the lines, if the engine is open
-abbrev pub lines_if : Bool → List Line → Option (List Line)
-lines_if true ls = Some ls
-lines_if false ls = None
-
 -- the lines of the table that is open
-abbrev pub open_lines : Setup → Option (List Line)
-open_lines s = lines_if s.opened (lines_of s.table)
+abbrev pub open_lines : Option Setup → Option (List Line)
+open_lines None = None
+open_lines (Some s) = Some (lines_of s.table)
+
+-- the figures of its lines; all 0 while the engine is shut
+abbrev pub open_figures : Option Setup → List ℕ
+open_figures None = replicate 32 0
+open_figures (Some s) = s.figures
 
 -- the record with the number n; there is no number 0
 abbrev pub task_of : List Task → ℕ → Task
@@ -48,4 +49,4 @@ task_of ts (suc i) = slice_index_or ts i unused
 
 -- the status of an engine with this state
 abbrev pub status_of : State → Status
-status_of s = record { lines = open_lines s.setup; figures = s.setup.figures; ticks = s.ticks; task = task_of s.tasks }
+status_of s = record { lines = open_lines s.setup; figures = open_figures s.setup; ticks = s.ticks; task = task_of s.tasks }

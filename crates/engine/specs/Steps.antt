@@ -11,7 +11,6 @@ use Rattle.tasks.specs.Tables.{lines_of, IsLine, Numbered}
 use Rattle.policies.specs.Promises.{Meaning}
 use Rattle.response.specs.Figures.{Answered}
 use Rattle.engine.specs.declared.state.OpenJob.{OpenJob}
-use Rattle.engine.specs.declared.state.Job.TheVariants.{Closed, Open}
 use Rattle.engine.specs.declared.state.Task.{Task}
 use Rattle.engine.specs.Jobs.{unused, begun, heard, released, task_after}
 use Rattle.engine.specs.Status.{Status, most_ticks, put}
@@ -47,9 +46,9 @@ Rested now l t = (t.releases ≡ 0) ⊎ (t.last + l.period ≤ now)
 -- 13 within a period of the last release, 14 while the job is open; else the job starts with the policy's plan
 pub data ReleaseOn (m : Meaning) (st : Status) (task : ℕ) (l : Line) : Result Plan Refusal → Status → Type 0 where
   early : {e : Refusal} → told e ≡ (13, 0, 0) → 0 < (st.task task).releases → st.ticks < (st.task task).last + l.period → ReleaseOn m st task l (Err e) st
-  still_open : {e : Refusal} {o : OpenJob} → told e ≡ (14, 0, 0) → Rested st.ticks l (st.task task) → (st.task task).job ≡ Open o → ReleaseOn m st task l (Err e) st
-  starts : {p : Plan} → Rested st.ticks l (st.task task) → (st.task task).job ≡ Closed → p ≡ m.plan l (st.task task).mark
-      → ReleaseOn m st task l (Ok p) (record { lines = st.lines; figures = st.figures; ticks = st.ticks; task = put task (released (st.task task) st.ticks (Open (begun l p))) st.task })
+  still_open : {e : Refusal} {o : OpenJob} → told e ≡ (14, 0, 0) → Rested st.ticks l (st.task task) → (st.task task).job ≡ Some o → ReleaseOn m st task l (Err e) st
+  starts : {p : Plan} → Rested st.ticks l (st.task task) → (st.task task).job ≡ None → p ≡ m.plan l (st.task task).mark
+      → ReleaseOn m st task l (Ok p) (record { lines = st.lines; figures = st.figures; ticks = st.ticks; task = put task (released (st.task task) st.ticks (Some (begun l p))) st.task })
 
 -- a release of the task
 abbrev pub Release : Meaning → Status → ℕ → Result Plan Refusal → Status → Type 0
@@ -67,13 +66,13 @@ FigureAsked st task = OfTask st task (λ ls l r st'. (r ≡ Ok (slice_index st.f
 
 -- no task of the table has an open job
 abbrev pub Quiet : Status → List Line → Type 0
-Quiet st ls = (n : ℕ) → IsLine ls n → (st.task n).job ≡ Closed
+Quiet st ls = (n : ℕ) → IsLine ls n → (st.task n).job ≡ None
 
 -- the open job with the smallest task number is o; it is of the task n, whose line is l
 pub record Turn (st : Status) (ls : List Line) (n : ℕ) (l : Line) (o : OpenJob) : Type 0 where
   pub line : Numbered ls n l
-  pub job : (st.task n).job ≡ Open o
-  pub first : (k : ℕ) → 1 ≤ k → k < n → (st.task k).job ≡ Closed
+  pub job : (st.task n).job ≡ Some o
+  pub first : (k : ℕ) → 1 ≤ k → k < n → (st.task k).job ≡ None
 
 -- one tick later, with these records
 abbrev pub later : Status → (ℕ → Task) → Status

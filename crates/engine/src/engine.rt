@@ -6,7 +6,6 @@ ghost use Rattle.engine.specs.Kept.{Fair};
 
 use crate::state::*;
 use policies::policy::Policy;
-use tasks::table::Table;
 
 // The policy and the plain state, and what every call keeps.
 #[derive(Drop)]
@@ -23,15 +22,10 @@ impl<P: Policy> Engine<P> {
         ensures status { status_of result.state ≡ new_status }
         ensures policy { result.policy ≡ policy }
     {
-        let setup = Setup {
-            opened: false,
-            table: Table::new(),
-            figures: [0; 32],
-        };
         Engine {
             policy,
             state: State {
-                setup,
+                setup: None,
                 tasks: [UNUSED; 32],
                 ticks: 0,
             },

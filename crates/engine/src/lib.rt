@@ -8,3 +8,4 @@ pub mod questions;
 pub mod release;
 pub mod state;
 pub mod tick;
+mod word;

@@ -12,12 +12,6 @@ pub struct OpenJob {
     pub left: u32,
 }
 
-#[derive(Clone, Copy)]
-pub enum Job {
-    Closed,
-    Open(OpenJob),
-}
-
 // The record of a task. `last` is the number of ticks accepted before its last release, so that a tick changes one
 // record at most.
 #[derive(Clone, Copy)]
@@ -26,20 +20,23 @@ pub struct Task {
     pub releases: u64,
     pub ends: u64,
     pub last: u64,
-    pub job: Job,
+    // none while no job is open
+    pub job: Option<OpenJob>,
 }
 
-// What an opening puts in place. While the engine is shut, the table does not count.
+// What an opening puts in place.
 #[derive(Clone, Copy)]
 pub struct Setup {
-    pub opened: bool,
     pub table: Table,
     pub figures: [u32; 32],
 }
 
+// No `impl Model`: what clauses see of a state, its status, has the records as a function of the tasks' numbers, and a
+// model's value can hold no function.
 #[derive(Clone, Copy)]
 pub struct State {
-    pub setup: Setup,
+    // none while the engine is shut
+    pub setup: Option<Setup>,
     pub tasks: [Task; 32],
     // accepted since the engine was made
     pub ticks: u64,
@@ -51,7 +48,7 @@ pub const UNUSED: Task = Task {
     releases: 0,
     ends: 0,
     last: 0,
-    job: Job::Closed,
+    job: None,
 };
 
 // The most ticks that an engine accepts.
