@@ -1,5 +1,5 @@
 -- What is carried along a served log: the engine's status has what the account says, and the busy window's balance holds.
-use Rattle.std.proofs.Common.{◌≡◌, ℕ, zero, suc, ◌+◌, ◌<◌, ◌≤◌, Bool, true, ◌≢◌, List, [], ◌∷◌, ◌++◌, length, get_or, Some, None, Result, sym, refl, ap, ◌∙◌, subst, inl, inr, ⊎_elim, append-nil, arith, length-append}
+use Rattle.std.proofs.Common.{◌≡◌, ℕ, zero, suc, ◌+◌, ◌<◌, ◌≤◌, Bool, true, ◌≢◌, List, [], ◌∷◌, ◌++◌, length, get_or, Some, Option, None, Result, sym, refl, ap, ◌∙◌, subst, inl, inr, ⊎_elim, append-nil, arith, length-append}
 use Rattle.std.proofs.lemmas.Bool.{cases_eq}
 use Rattle.tasks.specs.declared.line.Line.{Line}
 use Rattle.tasks.specs.declared.table.Table.{Table}
@@ -17,8 +17,6 @@ use Rattle.window.proofs.Task as window-task
 use Rattle.window.proofs.Sound.{task_eq, Sound, sound_opened, sound_idle, sound_release, sound_tick}
 use Rattle.response.specs.Figures.{Figures, Taken, worked_out}
 use Rattle.engine.specs.declared.state.OpenJob.{OpenJob}
-use Rattle.engine.specs.declared.state.Job.{Job}
-use Rattle.engine.specs.declared.state.Job.TheVariants.{Closed, Open}
 use Rattle.engine.specs.declared.state.Task.{Task}
 use Rattle.engine.specs.Jobs.{is_open, begun, heard, job_after, released, task_after}
 use Rattle.engine.specs.Kept.{busy, left}
@@ -116,7 +114,7 @@ module _ (m : Meaning) (l : Line) (t : Task) (o : OpenJob) where
   after_mark Again y e = e
   after_mark (Ended x) y e = ap (λ (q : ℕ). m.next l q x) e ∙ sym (mark_append (m.plan l) (m.next l) 0 y.ends (x ∷ []))
 
-closed_free : (j : Job) → j ≡ Closed → pending_of j ≡ window.free
+closed_free : (j : Option OpenJob) → j ≡ None → pending_of j ≡ window.free
 closed_free j e = ap pending_of e
 
 -- two numbers that are not one
@@ -185,10 +183,10 @@ module _ (m : Meaning) (promises : Promises m) where
   freed a n = record { lines = a.lines; ticks = a.ticks; tally = put n (with_release a.ticks (a.tally n)) a.tally }
 
   abbrev started : Status → ℕ → Line → Plan → Status
-  started st n l p = record { lines = st.lines; figures = st.figures; ticks = st.ticks; task = put n (released (st.task n) st.ticks (Open (begun l p))) st.task }
+  started st n l p = record { lines = st.lines; figures = st.figures; ticks = st.ticks; task = put n (released (st.task n) st.ticks (Some (begun l p))) st.task }
 
   module _ (a : Account) (st : Status) (v : Carried m a st) (ls : List Line) (there : a.lines ≡ Some ls) (i : ℕ) (l : Line) (named : Numbered ls (suc i) l) where
-    sound_freed : (p : Plan) → Rested st.ticks l (st.task (suc i)) → (st.task (suc i)).job ≡ Closed → p ≡ m.plan l (st.task (suc i)).mark
+    sound_freed : (p : Plan) → Rested st.ticks l (st.task (suc i)) → (st.task (suc i)).job ≡ None → p ≡ m.plan l (st.task (suc i)).mark
         → (xs : List Line) (d : Line) → a.lines ≡ Some xs → (figure : ℕ → ℕ) → ((h : ℕ) → h < length xs → window.Meets m (λ h. get_or xs h d) h (figure h))
         → Sound m (length xs) (λ h. get_or xs h d) figure a.ticks (seen (freed a (suc i)) (started st (suc i) l p)) (λ h. ((freed a (suc i)).tally (suc h)).releases)
     sound_freed p rested closed planned xs d e figure meet =
@@ -206,7 +204,7 @@ module _ (m : Meaning) (promises : Promises m) where
         new = seen (freed a (suc i)) (started st (suc i) l p)
 
         w : Task
-        w = released (st.task (suc i)) st.ticks (Open (begun l p))
+        w = released (st.task (suc i)) st.ticks (Some (begun l p))
 
         same : ls ≡ xs
         same = cc
@@ -220,7 +218,7 @@ module _ (m : Meaning) (promises : Promises m) where
         there' : (h : ℕ) → h ≢ i → put (suc i) (with_release a.ticks (a.tally (suc i))) a.tally (suc h) ≡ a.tally (suc h)
         there' h ne = put_there (suc i) (with_release a.ticks (a.tally (suc i))) a.tally (suc h) (apart h i ne)
 
-    pub carried_freed : (p : Plan) → Rested st.ticks l (st.task (suc i)) → (st.task (suc i)).job ≡ Closed → p ≡ m.plan l (st.task (suc i)).mark → Carried m (freed a (suc i)) (started st (suc i) l p)
+    pub carried_freed : (p : Plan) → Rested st.ticks l (st.task (suc i)) → (st.task (suc i)).job ≡ None → p ≡ m.plan l (st.task (suc i)).mark → Carried m (freed a (suc i)) (started st (suc i) l p)
     carried_freed p rested closed planned = record {
       lines_is = v.lines_is;
       ticks_is = v.ticks_is;
@@ -239,7 +237,7 @@ module _ (m : Meaning) (promises : Promises m) where
         n = suc i
 
         w : Task
-        w = released (st.task n) st.ticks (Open (begun l p))
+        w = released (st.task n) st.ticks (Some (begun l p))
 
         y : Tally
         y = with_release a.ticks (a.tally n)
@@ -290,7 +288,7 @@ module _ (m : Meaning) (promises : Promises m) where
         (sound_tick m promises (length xs) (λ h. get_or xs h d) (λ h k. v.taken xs e h d k) figure meet a.ticks (seen a st) new (λ h. (a.tally (suc h)).releases) i x (pending_of (job_after l o x))
         (v.sound xs d e figure meet) place.0 (λ h k. closed_free (st.task (suc h)).job (turn.first (suc h) (omega arith) (omega arith)))
         (subst (λ (y : Line). window.Ticks y (pending_of (st.task (suc i)).job) x (pending_of (job_after l o x))) place.1
-        (subst (λ (j : Job). window.Ticks l (pending_of j) x (pending_of (job_after l o x))) (sym turn.job) (heard_comes l o word x lasts says)))
+        (subst (λ (j : Option OpenJob). window.Ticks l (pending_of j) x (pending_of (job_after l o x))) (sym turn.job) (heard_comes l o word x lasts says)))
         (task_eq (new i) _ (ap (λ (t : Tally). t.ends) (put_here (suc i) y a.tally) ∙ outcome_ends (a.tally (suc i)) x) (ap (λ (t : Task). pending_of t.job) (put_here (suc i) w st.task) ∙ ap pending_of (after_job m l (st.task (suc i)) o x)) (ap (λ (t : Tally). t.last) (put_here (suc i) y a.tally) ∙ outcome_last (a.tally (suc i)) x))
         (λ h ne. task_eq (new h) (seen a st h) (ap (λ (t : Tally). t.ends) (put_there (suc i) y a.tally (suc h) (apart h i ne))) (ap (λ (t : Task). pending_of t.job) (put_there (suc i) w st.task (suc h) (apart h i ne))) (ap (λ (t : Tally). t.last) (put_there (suc i) y a.tally (suc h) (apart h i ne)))))
       where
@@ -359,7 +357,7 @@ module _ (m : Meaning) (promises : Promises m) where
     by_opening t r st' (unfit {places = places} shut ans) = carried_closed a st places v shut
     by_opening t r st' (opens {places = places} shut (worked_out some ok figures admitted)) = carried_opened a st (lines_of t) places v.ticks_is ok figures
 
-    by_start : (n : ℕ) (ls : List Line) (l : Line) (p : Plan) → a.lines ≡ Some ls → Numbered ls n l → Rested st.ticks l (st.task n) → (st.task n).job ≡ Closed → p ≡ m.plan l (st.task n).mark → Carried m (freed a n) (started st n l p)
+    by_start : (n : ℕ) (ls : List Line) (l : Line) (p : Plan) → a.lines ≡ Some ls → Numbered ls n l → Rested st.ticks l (st.task n) → (st.task n).job ≡ None → p ≡ m.plan l (st.task n).mark → Carried m (freed a n) (started st n l p)
     by_start zero ls l p there named rested shut planned = absurd (omega (arith, named.0.0))
     by_start (suc i) ls l p there named rested shut planned = carried_freed a st v ls there i l named p rested shut planned
 

@@ -1,5 +1,5 @@
 -- The engine's jobs as the busy window sees them.
-use Rattle.std.proofs.Common.{◌≡◌, ℕ, zero, suc, ◌+◌, ◌-◌, ◌<◌, ◌≤◌, Bool, true, false, cond, ltb, length, Some, None, sym, refl, ap, ◌∙◌, subst, arith}
+use Rattle.std.proofs.Common.{◌≡◌, ℕ, zero, suc, ◌+◌, ◌-◌, ◌<◌, ◌≤◌, Bool, true, false, cond, ltb, length, Some, Option, None, sym, refl, ap, ◌∙◌, subst, arith}
 use Rattle.tasks.specs.declared.line.Line.{Line}
 use Rattle.tasks.specs.declared.job.Plan.{Plan}
 use Rattle.tasks.specs.declared.job.Plan.TheVariants as plan
@@ -10,18 +10,16 @@ use Rattle.tasks.specs.declared.job.Outcome.{Outcome}
 use Rattle.tasks.specs.declared.job.Outcome.TheVariants.{Idle, On, Again, Ended}
 use Rattle.window.proofs.Pending as window
 use Rattle.engine.specs.declared.state.OpenJob.{OpenJob}
-use Rattle.engine.specs.declared.state.Job.{Job}
-use Rattle.engine.specs.declared.state.Job.TheVariants.{Closed, Open}
 use Rattle.engine.specs.Jobs.{is_open, begun, ending, faulted, heard, job_after}
 use Rattle.engine.specs.Kept.{busy, left}
 use Rattle.engine.proofs.Ticks.{on_left}
 
-abbrev pub pending_of : Job → window.Pending
-pending_of Closed = window.free
-pending_of (Open o) = window.busy o.plan (ending o.version) o.left
+abbrev pub pending_of : Option OpenJob → window.Pending
+pending_of None = window.free
+pending_of (Some o) = window.busy o.plan (ending o.version) o.left
 
 -- a job just released
-pub begun_pending : (l : Line) (p : Plan) → pending_of (Open (begun l p)) ≡ window.just_released l p
+pub begun_pending : (l : Line) (p : Plan) → pending_of (Some (begun l p)) ≡ window.just_released l p
 begun_pending l plan.Bare = refl
 begun_pending l plan.Detect = refl
 begun_pending l plan.Correct = refl
@@ -33,13 +31,13 @@ begun_lasts l plan.Detect = omega (arith, l.ordered)
 begun_lasts l plan.Correct = omega (arith, l.ordered)
 begun_lasts l plan.Recover = omega (arith, l.ordered)
 
-pub due_busy : (j : Job) → length (window.due (pending_of j)) ≡ busy j
-due_busy Closed = refl
-due_busy (Open o) = refl
+pub due_busy : (j : Option OpenJob) → length (window.due (pending_of j)) ≡ busy j
+due_busy None = refl
+due_busy (Some o) = refl
 
-pub busy_open : (j : Job) → busy j ≡ cond (is_open j) 1 0
-busy_open Closed = refl
-busy_open (Open o) = refl
+pub busy_open : (j : Option OpenJob) → busy j ≡ cond (is_open j) 1 0
+busy_open None = refl
+busy_open (Some o) = refl
 
 -- ---- what a word does to an open job is what the window's tick does
 
@@ -53,7 +51,7 @@ none_heard x e = let z : ◌≡◌ {A = ℕ} 0 1 = cc in absurd (omega arith)
 module _ (l : Line) where
   -- the tick of the job o that comes out as x
   abbrev Comes : OpenJob → Outcome → Type 0
-  Comes o x = window.Ticks l (pending_of (Open o)) x (pending_of (job_after l o x))
+  Comes o x = window.Ticks l (pending_of (Some o)) x (pending_of (job_after l o x))
 
   goes_on : (o : OpenJob) → 1 < o.left → Comes o On
   goes_on o more =

@@ -1,5 +1,5 @@
 -- Every served log keeps the service guarantee.
-use Rattle.std.proofs.Common.{◌≡◌, ℕ, zero, suc, ◌+◌, ◌-◌, ◌<◌, ◌≤◌, Bool, cond, eqb, List, ◌++◌, length, get_or, take, Some, Ok, Err, Result, sym, refl, ap, ◌∙◌, subst, arith}
+use Rattle.std.proofs.Common.{◌≡◌, ℕ, zero, suc, ◌+◌, ◌-◌, ◌<◌, ◌≤◌, Bool, cond, eqb, List, ◌++◌, length, get_or, take, Some, None, Ok, Err, Result, sym, refl, ap, ◌∙◌, subst, arith}
 use Rattle.std.proofs.lemmas.Bool.{cond-true, cond-false, eq-eqb, ne_eqb}
 use Rattle.tasks.specs.declared.line.Line.{Line}
 use Rattle.tasks.specs.declared.table.Table.{Table}
@@ -15,7 +15,6 @@ use Rattle.window.proofs.Sums.{by_place, sum_upto}
 use Rattle.window.proofs.Sound.{sound_in_time, sound_reliable}
 use Rattle.response.specs.Figures as response
 use Rattle.engine.specs.declared.state.OpenJob.{OpenJob}
-use Rattle.engine.specs.declared.state.Job.TheVariants.{Closed, Open}
 use Rattle.engine.specs.Kept.{busy}
 use Rattle.engine.specs.Status.{Status}
 use Rattle.engine.specs.Steps as step
@@ -98,11 +97,11 @@ module _ (m : Meaning) where
     table_is : (ls : List Line) → a.lines ≡ Some ls → st.lines ≡ Some ls
     table_is ls e = v.lines_is ∙ e
 
-    even_when : (ls : List Line) (n : ℕ) → a.lines ≡ Some ls → IsLine ls n → (st.task n).job ≡ Closed → Even (a.tally n)
+    even_when : (ls : List Line) (n : ℕ) → a.lines ≡ Some ls → IsLine ls n → (st.task n).job ≡ None → Even (a.tally n)
     even_when ls zero there is shut = absurd (omega (arith, is.0))
     even_when ls (suc i) there is shut = omega (arith, balanced promises a st v ls there (some_line ls (suc i) is) i, ap busy shut)
 
-    odd_when : (ls : List Line) (n : ℕ) (o : OpenJob) → a.lines ≡ Some ls → IsLine ls n → (st.task n).job ≡ Open o → Even (a.tally n) → ⊥
+    odd_when : (ls : List Line) (n : ℕ) (o : OpenJob) → a.lines ≡ Some ls → IsLine ls n → (st.task n).job ≡ Some o → Even (a.tally n) → ⊥
     odd_when ls zero o there is job even = omega (arith, is.0)
     odd_when ls (suc i) o there is job even = omega (arith, balanced promises a st v ls there (some_line ls (suc i) is) i, ap busy job)
 

@@ -16,26 +16,17 @@ fn made<P: Policy>(engine: &mut Engine<P>, call: &Call) -> Answer
     ensures policy { engine.new.policy ≡ engine.old.policy }
 {
     match call {
-        Call::Open { table } => {
-            let admitted = engine.open(table)?;
-            Ok(Reply::Opened { admitted })
-        }
-        Call::Release { task } => {
-            let plan = engine.release(*task)?;
-            Ok(Reply::Planned { plan })
-        }
-        Call::Tick { word } => {
-            let (task, outcome) = engine.tick(*word)?;
-            Ok(Reply::Ticked { task, outcome })
-        }
-        Call::Counts { task } => {
-            let (releases, ends) = engine.counts(*task)?;
-            Ok(Reply::Counted { releases, ends })
-        }
-        Call::Figure { task } => {
-            let figure = engine.figure(*task)?;
-            Ok(Reply::Figured { figure })
-        }
+        Call::Open { table } => engine
+            .open(table)
+            .map(|admitted| Reply::Opened { admitted }),
+        Call::Release { task } => engine.release(*task).map(|plan| Reply::Planned { plan }),
+        Call::Tick { word } => engine
+            .tick(*word)
+            .map(|(task, outcome)| Reply::Ticked { task, outcome }),
+        Call::Counts { task } => engine
+            .counts(*task)
+            .map(|(releases, ends)| Reply::Counted { releases, ends }),
+        Call::Figure { task } => engine.figure(*task).map(|figure| Reply::Figured { figure }),
     }
 }
 

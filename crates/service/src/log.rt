@@ -1,4 +1,7 @@
 // Calls of an engine, and their answers.
+ghost use Rattle.std.specs.Prelude.{◌≡◌, Err};
+ghost use Rattle.tasks.specs.declared.refusal.Refusal.{Refusal};
+
 use tasks::job::{Outcome, Plan};
 use tasks::refusal::Refusal;
 use tasks::table::Table;
@@ -34,4 +37,16 @@ pub type Answer = Result<Reply, Refusal>;
 pub struct Entry {
     pub call: Call,
     pub answer: Answer,
+}
+
+impl Entry {
+    // A call that has no answer yet: what a shut engine refuses stands in its place.
+    pub fn unanswered(call: Call) -> Self
+        ensures { result ≡ record { call = call; answer = Err Refusal.Shut } }
+    {
+        Entry {
+            call,
+            answer: Err(Refusal::Shut),
+        }
+    }
 }
