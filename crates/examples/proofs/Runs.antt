@@ -1,5 +1,5 @@
 -- The run of an engine, step by step: its log is served, and no other is.
-use Rattle.std.proofs.Common.{◌≡◌, ℕ, ◌+◌, ◌<◌, true, List, [], ◌∷◌, map, reverse, replicate, Some, Ok, Err, codes, sym, refl, ap, ◌∙◌, subst, inl, inr, arith, lit<, lit≤}
+use Rattle.std.proofs.Common.{◌≡◌, ℕ, ◌+◌, ◌<◌, true, List, [], ◌∷◌, map, reverse, replicate, None, Some, Ok, Err, codes, sym, refl, ap, ◌∙◌, subst, inl, inr, arith, lit<, lit≤}
 use mathlib.Core.List.{reverse_aux, reverse-reverse}
 use Rattle.words.specs.Bits.{word_of}
 use Rattle.words.specs.Sums.{sum_below, row, greatest_below, greatest_row}
@@ -20,7 +20,6 @@ use Rattle.policies.specs.Promises.{Meaning, meant}
 use Rattle.policies.specs.Techniques.{technique_plan, technique_next}
 use Rattle.response.specs.Figures.{Figure, smallest, Answered}
 use Rattle.engine.specs.declared.state.OpenJob.{OpenJob}
-use Rattle.engine.specs.declared.state.Job.TheVariants.{Closed, Open}
 use Rattle.engine.specs.declared.state.Task.{Task}
 use Rattle.engine.specs.Jobs.{begun, heard, released, task_after, unused}
 use Rattle.engine.specs.Status.{Status, most_ticks, put}
@@ -73,19 +72,19 @@ module _ (t : Table) (n : Name) (fit : Fit run_row) (e : lines_of t ≡ l n fit 
   lines = ap (λ (x : List Line). Some x) e
 
   module _ {log : List Entry} {now : ℕ} {f : ℕ → Task} (before : Served by_line log (at now f)) where
-    starts_with : (p : Plan) → Rested now (l n fit) (f 1) → (f 1).job ≡ Closed → p ≡ by_line.plan (l n fit) (f 1).mark
-        → Served by_line (entry (Release 1) (Ok (Planned p)) ∷ log) (at now (put 1 (released (f 1) now (Open (begun (l n fit) p))) f))
+    starts_with : (p : Plan) → Rested now (l n fit) (f 1) → (f 1).job ≡ None → p ≡ by_line.plan (l n fit) (f 1).mark
+        → Served by_line (entry (Release 1) (Ok (Planned p)) ∷ log) (at now (put 1 (released (f 1) now (Some (begun (l n fit) p))) f))
     starts_with p rested shut is = one_more (entry (Release 1) (Ok (Planned p))) before (Ok p, refl, of_line lines ((lit≤ tt, lit≤ tt), refl) (starts rested shut is))
 
     comes_early : 0 < (f 1).releases → now < (f 1).last + 5 → Served by_line (too_early ∷ log) (at now f)
     comes_early some within = one_more too_early before (Err TooEarly, refl, of_line lines ((lit≤ tt, lit≤ tt), refl) (early refl some within))
 
-    idles_on : now < most_ticks → (f 1).job ≡ Closed → Served by_line (idle ∷ log) (at (now + 1) f)
+    idles_on : now < most_ticks → (f 1).job ≡ None → Served by_line (idle ∷ log) (at (now + 1) f)
     idles_on room shut =
-        let quiet : Quiet (at now f) (l n fit ∷ []) = λ k h. let first : 1 ≡ k = omega (arith, h.0, h.1) in subst (λ (j : ℕ). (f j).job ≡ Closed) first shut in
+        let quiet : Quiet (at now f) (l n fit ∷ []) = λ k h. let first : 1 ≡ k = omega (arith, h.0, h.1) in subst (λ (j : ℕ). (f j).job ≡ None) first shut in
         one_more idle before (Ok (0, Idle), refl, ticks lines room (idles quiet refl))
 
-    hears : (w : ℕ) (x : Outcome) (o : OpenJob) → now < most_ticks → (f 1).job ≡ Open o → heard o w ≡ Some x
+    hears : (w : ℕ) (x : Outcome) (o : OpenJob) → now < most_ticks → (f 1).job ≡ Some o → heard o w ≡ Some x
         → Served by_line (entry (Tick w) (Ok (Ticked 1 x)) ∷ log) (at (now + 1) (put 1 (task_after by_line (l n fit) (f 1) o x) f))
     hears w x o room is_open said =
         one_more (entry (Tick w) (Ok (Ticked 1 x))) before

@@ -35,7 +35,7 @@ pub fn all(heap: Global) -> Examples
         turned: turned(),
         demands: demands(),
         report: reported(heap),
-        figures: [figures_by_r(), figures_by_dre()],
+        figures: figures_by_change(),
         refusals: refusals(),
         run: engine_run(),
     }

@@ -1,5 +1,5 @@
 // Tables of a camera and an arm: a report, figures and refusals.
-ghost use Rattle.std.specs.Prelude.{◌≡◌, IfOk, Some, Err};
+ghost use Rattle.std.specs.Prelude.{◌≡◌, [], ◌∷◌, IfOk, Some, Err};
 ghost use Rattle.tasks.specs.declared.refusal.Refusal.{Refusal};
 ghost use Rattle.tasks.specs.Refused.{told};
 ghost use Rattle.text.specs.Reading.{reading};
@@ -33,21 +33,17 @@ fn figures_of(text: &[u8]) -> [u32; 32]
     places
 }
 
-// With R for E.
-pub(crate) fn figures_by_r() -> [u32; 32]
-    ensures { result ≡ figures_told }
+// With R for E, and with DRE for the camera.
+pub(crate) fn figures_by_change() -> [[u32; 32]; 2]
+    ensures { result ≡ figures_told ∷ figures_told ∷ [] }
 {
-    figures_of(b"CAM,SRE,2,4,R,10,11,20,40\nARM,SRE,1,1,R,30,40,50,80\n")
+    [
+        figures_of(b"CAM,SRE,2,4,R,10,11,20,40\nARM,SRE,1,1,R,30,40,50,80\n"),
+        figures_of(b"CAM,DRE,2,4,E,10,11,20,40\nARM,SRE,1,1,R,30,40,50,80\n"),
+    ]
 }
 
-// With DRE for the camera.
-pub(crate) fn figures_by_dre() -> [u32; 32]
-    ensures { result ≡ figures_told }
-{
-    figures_of(b"CAM,DRE,2,4,E,10,11,20,40\nARM,SRE,1,1,R,30,40,50,80\n")
-}
-
-// Number, line and place of the refusal of a text.
+// Number, line and place of the refusal of a text: numbers and no `Refusal`, since what is told of it is the example.
 fn refused(text: &[u8]) -> Option<(u32, u32, usize)>
     ensures { (e : Refusal) → reading text.now ≡ Err e → result ≡ Some (told e) }
 {

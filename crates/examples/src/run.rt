@@ -8,7 +8,6 @@ ghost use Rattle.examples.specs.Runs.{run_text, run_log, TheRun};
 use policies::by_line::ByLine;
 use service::log::*;
 use service::replay::replay;
-use tasks::refusal::Refusal;
 use tasks::table::Table;
 use text::read::read;
 
@@ -20,25 +19,16 @@ fn table() -> Table
     table
 }
 
-// An entry that is to be filled in.
-fn entry(call: Call) -> Entry
-    ensures { result.call ≡ call }
-{
-    Entry {
-        call,
-        answer: Err(Refusal::Shut),
-    }
-}
-
+// The calls of the run, without their answers.
 fn unanswered(table: Table) -> [Entry; 12]
     ensures { calls result ≡ calls (run_log table) }
 {
-    let release = entry(Call::Release { task: 1 });
-    let on = entry(Call::Tick { word: 0 });
-    let end = entry(Call::Tick { word: 1 });
-    let fault = entry(Call::Tick { word: 2 });
+    let release = Call::Release { task: 1 };
+    let on = Call::Tick { word: 0 };
+    let end = Call::Tick { word: 1 };
+    let fault = Call::Tick { word: 2 };
     [
-        entry(Call::Open { table }),
+        Call::Open { table },
         release,
         on,
         fault,
@@ -51,6 +41,7 @@ fn unanswered(table: Table) -> [Entry; 12]
         on,
         end,
     ]
+    .map(Entry::unanswered)
 }
 
 // Reads the table, makes the calls on a new engine under the by-line policy, and gives them with their answers.
