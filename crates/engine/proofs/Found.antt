@@ -18,25 +18,28 @@ use Rattle.engine.proofs.Tasks.{task_at}
 
 -- ---- what is set up, and read through a reference
 
-module _ (s : Option Setup) (r : Option (Bor Setup)) (read : option_copied r ≡ s) where
-  pub open_at : (x : Bor Setup) → r ≡ Some x → s ≡ Some x.now
-  open_at x e = sym read ∙ ap option_copied e
+module _ {s : Option Setup} {r : Option (Bor Setup)} (read : option_copied r ≡ s) where
+  pub setup_at : {x : Bor Setup} → r ≡ Some x → s ≡ Some x.now
+  setup_at e = sym read ∙ ap option_copied e
 
-  pub shut_at : r ≡ None → s ≡ None
-  shut_at e = sym read ∙ ap option_copied e
+  pub lines_at : {x : Bor Setup} → r ≡ Some x → open_lines s ≡ Some (lines_of x.now.table)
+  lines_at e = ap open_lines (setup_at e)
+
+  pub no_lines_at : r ≡ None → open_lines s ≡ None
+  no_lines_at e = ap open_lines (sym read ∙ ap option_copied e)
 
 -- what is not there is refused with the refusal given
-pub told_none : {A : Type 0} (r : Option A) (e d : Refusal) → ◌≡◌ {A = Result A Refusal} (Err e) (ok_or r d) → r ≡ None → e ≡ d
-told_none {A} r e d p n = let z : ◌≡◌ {A = Result A Refusal} (Err e) (Err d) = p ∙ ap (λ x. ok_or x d) n in cc
+pub told_none : {A : Type 0} {r : Option A} {e d : Refusal} → ◌≡◌ {A = Result A Refusal} (Err e) (ok_or r d) → r ≡ None → e ≡ d
+told_none {d = d} p n = cc (ap (λ x. ok_or x d) n)
 
 -- a test for something there
 pub none_of : {A : Type 0} (o : Option A) → is_some o ≡ false → o ≡ None
 none_of None e = refl
-none_of (Some x) e = let z : ◌≡◌ {A = ℕ} 0 1 = cc in absurd (omega arith)
+none_of (Some x) e = cc
 
 pub some_of : {A : Type 0} (o : Option A) → is_some o ≡ true → (x : A) × (o ≡ Some x)
 some_of (Some x) e = (x, refl)
-some_of None e = let z : ◌≡◌ {A = ℕ} 0 1 = cc in absurd (omega arith)
+some_of None e = cc
 
 -- places that are all 0
 pub zeros : (xs : List ℕ) → ((i : ℕ) → get_or xs i 0 ≡ 0) → xs ≡ replicate (length xs) 0
@@ -55,7 +58,7 @@ pub few_of : (t : Table) → length (lines_of t) ≤ 32
 few_of t = omega (arith, t.few, length-take t.len t.lines)
 
 pub few_lines : (s : Option Setup) (ls : List Line) → open_lines s ≡ Some ls → length ls ≤ 32
-few_lines None ls e = let z : ◌≡◌ {A = ℕ} 0 1 = cc in absurd (omega arith)
+few_lines None ls e = cc
 few_lines (Some s) ls e = let is : lines_of s.table ≡ ls = cc in omega (arith, few_of s.table, ap length is)
 
 -- a task that was found has a line of the open table, and stands one place before its number
@@ -89,7 +92,7 @@ module _ (s : State) (task : ℕ) (x : Found) (f : Named (status_of s) task x) w
 pub refused : {A : Type 0} (st st' : Status) (task : ℕ) (rule : List Line → Line → Result A Refusal → Status → Type 0) (e : Refusal) → TaskFound st task (Err e) st' → OfTask st task rule (Err e) st
 refused st st' task rule e (no_table t n) = no_table t n
 refused st st' task rule e (no_task t s n) = no_task t s n
-refused st st' task rule e (of_line s n (is, same)) = let z : ◌≡◌ {A = ℕ} 0 1 = cc in absurd (omega arith)
+refused st st' task rule e (of_line s n (is, same)) = cc
 
 -- a status by its parts
 pub status_eq : (st st' : Status) → st.lines ≡ st'.lines → st.figures ≡ st'.figures → st.ticks ≡ st'.ticks → st.task ≡ st'.task → st ≡ st'

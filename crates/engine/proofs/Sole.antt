@@ -1,5 +1,5 @@
 -- No call of an engine has a choice: it has one answer, and leaves one status.
-use Rattle.std.proofs.Common.{◌≡◌, ℕ, ◌+◌, ◌-◌, ◌<◌, List, [], ◌∷◌, get_or, Some, None, Err, Option, Result, sym, refl, ap, ◌∙◌, ⊎_elim, arith}
+use Rattle.std.proofs.Common.{◌≡◌, ℕ, ◌+◌, ◌-◌, ◌<◌, List, [], ◌∷◌, get_or, Err, Result, sym, refl, ap, ◌∙◌, ⊎_elim, arith}
 use Rattle.std.proofs.lemmas.List.{get_or_default}
 use Rattle.tasks.specs.declared.line.Line.{Line}
 use Rattle.tasks.specs.declared.table.Table.{Table}
@@ -47,15 +47,7 @@ told_one e e' x p q = sym (told_back e) ∙ ap telling (p ∙ sym q) ∙ told_ba
 pub same_line : (ls : List Line) (n : ℕ) (l l' : Line) → Numbered ls n l → Numbered ls n l' → l ≡ l'
 same_line ls n l l' (is, e) (is', e') = e ∙ get_or_default ls (n - 1) l l' (omega arith) ∙ sym e'
 
--- ---- what clashes
-
--- no engine is shut and open
-shut_clash : {o : Option (List Line)} {ls : List Line} → o ≡ None → o ≡ Some ls → ⊥
-shut_clash p q = let z : ◌≡◌ {A = ℕ} 0 1 = cc in omega arith
-
--- no job is closed and open
-job_clash : {j : Option OpenJob} {o : OpenJob} → j ≡ None → j ≡ Some o → ⊥
-job_clash p q = let z : ◌≡◌ {A = ℕ} 0 1 = cc in omega arith
+-- ---- refusals
 
 -- one refusal tells x; it leaves the status
 refused_one : {A : Type 0} {e e' : Refusal} {x : ℕ × ℕ × ℕ} {st : Status} → told e ≡ x → told e' ≡ x → (◌≡◌ {A = Result A Refusal} (Err e) (Err e')) × (st ≡ st)
@@ -66,12 +58,12 @@ refused_one {A} {e} {e'} {x} p q = (ap Err (told_one e e' x p q), refl)
 -- to open
 pub opening_sole : (m : Meaning) (st : Status) (t : Table) → Sole (Opening m st t)
 opening_sole m st t r r' s s' (already_open c a) (already_open c' a') = refused_one c c'
-opening_sole m st t r r' s s' (already_open c a) (unfit a' x') = absurd (shut_clash a' a)
-opening_sole m st t r r' s s' (already_open c a) (opens a' x') = absurd (shut_clash a' a)
-opening_sole m st t r r' s s' (unfit a x) (already_open c' a') = absurd (shut_clash a a')
+opening_sole m st t r r' s s' (already_open c a) (unfit a' x') = cc
+opening_sole m st t r r' s s' (already_open c a) (opens a' x') = cc
+opening_sole m st t r r' s s' (unfit a x) (already_open c' a') = cc
 opening_sole m st t r r' s s' (unfit a x) (unfit a' x') = let one = answered_one _ _ _ _ _ _ _ x x' in (one.0, ap (closed st) one.1)
 opening_sole m st t r r' s s' (unfit a x) (opens a' x') = let one = answered_one _ _ _ _ _ _ _ x x' in (cc, cc)
-opening_sole m st t r r' s s' (opens a x) (already_open c' a') = absurd (shut_clash a a')
+opening_sole m st t r r' s s' (opens a x) (already_open c' a') = cc
 opening_sole m st t r r' s s' (opens a x) (unfit a' x') = let one = answered_one _ _ _ _ _ _ _ x x' in (cc, cc)
 opening_sole m st t r r' s s' (opens a x) (opens a' x') = let one = answered_one _ _ _ _ _ _ _ x x' in (one.0, ap (opened st (lines_of t)) one.1)
 
@@ -80,12 +72,12 @@ opening_sole m st t r r' s s' (opens a x) (opens a' x') = let one = answered_one
 -- by a rule that has no choice
 pub of_task_sole : {A : Type 0} (st : Status) (task : ℕ) (rule : List Line → Line → Result A Refusal → Status → Type 0) → ((ls : List Line) (l : Line) → Sole (rule ls l)) → Sole (OfTask st task rule)
 of_task_sole st task rule one r r' s s' (no_table c a) (no_table c' a') = refused_one c c'
-of_task_sole st task rule one r r' s s' (no_table c a) (no_task c' a' n') = absurd (shut_clash a a')
-of_task_sole st task rule one r r' s s' (no_table c a) (of_line a' n' x') = absurd (shut_clash a a')
-of_task_sole st task rule one r r' s s' (no_task c a n) (no_table c' a') = absurd (shut_clash a' a)
+of_task_sole st task rule one r r' s s' (no_table c a) (no_task c' a' n') = cc
+of_task_sole st task rule one r r' s s' (no_table c a) (of_line a' n' x') = cc
+of_task_sole st task rule one r r' s s' (no_task c a n) (no_table c' a') = cc
 of_task_sole st task rule one r r' s s' (no_task c a n) (no_task c' a' n') = refused_one c c'
 of_task_sole st task rule one r r' s s' (no_task {ls} c a n) (of_line {ls = ls'} a' n' x') = let e : ls ≡ ls' = cc in absurd (n (rw e n'.0))
-of_task_sole st task rule one r r' s s' (of_line a n x) (no_table c' a') = absurd (shut_clash a' a)
+of_task_sole st task rule one r r' s s' (of_line a n x) (no_table c' a') = cc
 of_task_sole st task rule one r r' s s' (of_line {ls} a n x) (no_task {ls = ls'} c' a' n') = let e : ls' ≡ ls = cc in absurd (n' (rw e n.0))
 of_task_sole st task rule one r r' s s' (of_line {ls} {l} a n x) (of_line {ls = ls'} {l = l'} a' n' x') =
     let e : ls ≡ ls' = cc in
@@ -103,9 +95,9 @@ release_on_sole m st task l r r' s s' (early c a b) (still_open c' q' j') = absu
 release_on_sole m st task l r r' s s' (early c a b) (starts q' j' p') = absurd (rested_clash st task l a b q')
 release_on_sole m st task l r r' s s' (still_open c q j) (early c' a' b') = absurd (rested_clash st task l a' b' q)
 release_on_sole m st task l r r' s s' (still_open c q j) (still_open c' q' j') = refused_one c c'
-release_on_sole m st task l r r' s s' (still_open c q j) (starts q' j' p') = absurd (job_clash j' j)
+release_on_sole m st task l r r' s s' (still_open c q j) (starts q' j' p') = cc
 release_on_sole m st task l r r' s s' (starts q j p) (early c' a' b') = absurd (rested_clash st task l a' b' q)
-release_on_sole m st task l r r' s s' (starts q j p) (still_open c' q' j') = absurd (job_clash j j')
+release_on_sole m st task l r r' s s' (starts q j p) (still_open c' q' j') = cc
 release_on_sole m st task l r r' s s' (starts q j p) (starts q' j' p') = rw (p, p') (refl, refl)
 
 -- to release a task
@@ -128,11 +120,11 @@ figure_sole st task = of_task_sole st task _ (λ ls l. answer_sole _ st)
 
 -- where all jobs are closed, none has the turn
 quiet_clash : {st : Status} {ls : List Line} {n : ℕ} {l : Line} {o : OpenJob} → Quiet st ls → Turn st ls n l o → ⊥
-quiet_clash {n = n} q t = job_clash (q n t.line.0) t.job
+quiet_clash {n = n} q t = cc (q n t.line.0, t.job)
 
 -- of two tasks that have the turn, the first has not the smaller number
 turn_below : {st : Status} {ls : List Line} {n n' : ℕ} {l l' : Line} {o o' : OpenJob} → Turn st ls n l o → Turn st ls n' l' o' → n < n' → ⊥
-turn_below {n = n} t t' h = job_clash (t'.first n t.line.0.0 h) t.job
+turn_below {n = n} t t' h = cc (t'.first n t.line.0.0 h, t.job)
 
 -- one job has the turn
 turn_one : {st : Status} {ls : List Line} {n n' : ℕ} {l l' : Line} {o o' : OpenJob} → Turn st ls n l o → Turn st ls n' l' o' → (n ≡ n') × (l ≡ l') × (o ≡ o')
@@ -165,11 +157,11 @@ tick_on_sole m st ls w r r' s s' (runs {x = x} t h) (runs {x = x'} t' h') =
 -- a tick
 pub tick_sole : (m : Meaning) (st : Status) (word : ℕ) → Sole (Tick m st word)
 tick_sole m st w r r' s s' (unopened c a) (unopened c' a') = refused_one c c'
-tick_sole m st w r r' s s' (unopened c a) (spent c' a' f') = absurd (shut_clash a a')
-tick_sole m st w r r' s s' (unopened c a) (ticks a' f' x') = absurd (shut_clash a a')
-tick_sole m st w r r' s s' (spent c a f) (unopened c' a') = absurd (shut_clash a' a)
+tick_sole m st w r r' s s' (unopened c a) (spent c' a' f') = cc
+tick_sole m st w r r' s s' (unopened c a) (ticks a' f' x') = cc
+tick_sole m st w r r' s s' (spent c a f) (unopened c' a') = cc
 tick_sole m st w r r' s s' (spent c a f) (spent c' a' f') = refused_one c c'
 tick_sole m st w r r' s s' (spent c a f) (ticks a' f' x') = absurd (omega arith)
-tick_sole m st w r r' s s' (ticks a f x) (unopened c' a') = absurd (shut_clash a' a)
+tick_sole m st w r r' s s' (ticks a f x) (unopened c' a') = cc
 tick_sole m st w r r' s s' (ticks a f x) (spent c' a' f') = absurd (omega arith)
 tick_sole m st w r r' s s' (ticks {ls} a f x) (ticks {ls = ls'} a' f' x') = let e : ls ≡ ls' = cc in tick_on_sole m st ls w r r' s s' x (rw e x')

@@ -94,14 +94,18 @@ unsaid m st ls word there more high = ⊎_elim
     ticks there more (unheard refl (record { line = line.1; job = job; first = before }) (heard_none o word high)))
     (first_among (λ k. (st.task k).job) (length ls))
 
+-- what the job makes of the number, from what it makes of the word
+pub heard_by : (o : OpenJob) (w : Word) {word : ℕ} {r y : Option Outcome} → said_by w ≡ word → r ≡ heard o (said_by w) → r ≡ y → heard o word ≡ y
+heard_by o w said told is = cc (ap (heard o) said)
+
 -- a word tested for `GoesOn`
 pub goes_on : (w : Word) → false ≡ not (sameb the_type w GoesOn) → said_by w ≡ 0
 goes_on GoesOn e = refl
-goes_on word.Ended e = let z : ◌≡◌ {A = ℕ} 0 1 = cc in absurd (omega arith)
-goes_on Fault e = let z : ◌≡◌ {A = ℕ} 0 1 = cc in absurd (omega arith)
+goes_on word.Ended e = cc
+goes_on Fault e = cc
 
 pub goes_not : (w : Word) → true ≡ not (sameb the_type w GoesOn) → 0 < said_by w
-goes_not GoesOn e = let z : ◌≡◌ {A = ℕ} 0 1 = cc in absurd (omega arith)
+goes_not GoesOn e = cc
 goes_not word.Ended e = omega arith
 goes_not Fault e = omega arith
 
@@ -124,19 +128,19 @@ module _ (m : Meaning) (s : State) (ls : List Line) (there : open_lines s.setup 
 -- ---- what is left after a tick
 
 not_on : (v : Version) (p : Plan) → faulted v p ≡ Some On → ⊥
-not_on Bare p e = let z : ◌≡◌ {A = ℕ} 0 1 = cc in omega arith
-not_on Correct p e = let z : ◌≡◌ {A = ℕ} 0 1 = cc in omega arith
-not_on Detect plan.Bare e = let z : ◌≡◌ {A = ℕ} 0 1 = cc in omega arith
-not_on Detect plan.Detect e = let z : ◌≡◌ {A = ℕ} 0 1 = cc in omega arith
-not_on Detect plan.Correct e = let z : ◌≡◌ {A = ℕ} 0 1 = cc in omega arith
-not_on Detect plan.Recover e = let z : ◌≡◌ {A = ℕ} 0 1 = cc in omega arith
+not_on Bare p e = cc
+not_on Correct p e = cc
+not_on Detect plan.Bare e = cc
+not_on Detect plan.Detect e = cc
+not_on Detect plan.Correct e = cc
+not_on Detect plan.Recover e = cc
 
 -- a job that goes on had a second tick left
 pub on_left : (o : OpenJob) (word : ℕ) → heard o word ≡ Some On → 1 < o.left
 on_left o zero e = grind (arith, nat_tests)
-on_left o (suc zero) e = let z : ◌≡◌ {A = ℕ} 0 1 = cc in absurd (omega arith)
+on_left o (suc zero) e = cc
 on_left o (suc (suc zero)) e = absurd (not_on o.version o.plan e)
-on_left o (suc (suc (suc n))) e = let z : ◌≡◌ {A = ℕ} 0 1 = cc in absurd (omega arith)
+on_left o (suc (suc (suc n))) e = cc
 
 -- the record of a task is fair after a tick to its job
 pub after_fair : (m : Meaning) (now : ℕ) (l : Line) (t : Task) (o : OpenJob) (x : Outcome) (word : ℕ) → heard o word ≡ Some x → t.job ≡ Some o → Fair now t → Fair (now + 1) (task_after m l t o x)

@@ -1,13 +1,9 @@
-use Rattle.std.proofs.Common.{◌<◌, get_or, Some, sym, ◌∙◌, rules}
+use Rattle.std.proofs.Common.{◌<◌, get_or, sym, ◌∙◌, rules}
 use Rattle.std.proofs.lemmas.Result.{err_from_is_err_and}
 use Rattle.std.proofs.lemmas.Bool.{both_ways}
-use Rattle.policies.specs.Promises.{Meaning}
-use Rattle.policies.specs.Means.{meaning}
-use Rattle.engine.specs.Jobs.{unused, released}
-use Rattle.engine.specs.Kept.{Fair}
-use Rattle.engine.proofs.Tasks.{each_set}
+use Rattle.engine.specs.Jobs.{unused}
 use Rattle.engine.proofs.Found.{none_of, found, place_few, refused}
-use Rattle.engine.proofs.Releases.{too_early, job_open, accepted, released_fair}
+use Rattle.engine.proofs.Releases.{too_early, job_open, accepted}
 use Rattle.engine.proofs.engine.Engine.release.Goals as goal
 
 pub returns-in_err-place-clause-step : goal.returns-in_err-place-clause-step
@@ -20,15 +16,11 @@ bounds-self-place g c = place_few c.args.self.now.state c.args.task _ (found _ _
 
 pub returns-then-not-is_rested-clause-step : goal.returns-then-not-is_rested-clause-step
 returns-then-not-is_rested-clause-step g c =
-    let p = c.args.self.now.policy in
-    let m : Meaning = meaning g.P.Policy p in
-    too_early m c.args.self.now.state c.args.task _ (found _ _ _ _ c.in_ok-place.ensures) (λ r. both_ways c.is_rested.result c.if-not-is_rested.true (c.is_rested.ensures.1 r))
+    too_early _ c.args.self.now.state c.args.task _ (found _ _ _ _ c.in_ok-place.ensures) (λ r. both_ways c.is_rested.result c.if-not-is_rested.true (c.is_rested.ensures.1 r))
 
 pub returns-then-is_some-clause-step : goal.returns-then-is_some-clause-step
 returns-then-is_some-clause-step g c =
-    let p = c.args.self.now.policy in
-    let m : Meaning = meaning g.P.Policy p in
-    job_open m c.args.self.now.state c.args.task _ (found _ _ _ _ c.in_ok-place.ensures) (c.is_rested.ensures.0 c.if-not-is_rested.false) (sym c.is_some.ensures ∙ c.if-is_some.true)
+    job_open _ c.args.self.now.state c.args.task _ (found _ _ _ _ c.in_ok-place.ensures) (c.is_rested.ensures.0 c.if-not-is_rested.false) (sym c.is_some.ensures ∙ c.if-is_some.true)
 
 pub offset_bounds-self-place-2 : goal.offset_bounds-self-place-2
 offset_bounds-self-place-2 g c =
@@ -38,24 +30,11 @@ offset_bounds-self-place-2 g c =
 pub bounds-self-place-2 : goal.bounds-self-place-2
 bounds-self-place-2 g c = place_few c.args.self.now.state c.args.task _ (found _ _ _ _ c.in_ok-place.ensures)
 
-pub invariant_of-self : goal.invariant_of-self
-invariant_of-self g c =
-    let self = c.args.self.now in
-    let s = self.state in
-    let x = c.in_ok-place.field-0 in
-    let held = get_or s.tasks x.place unused in
-    let rested = c.is_rested.ensures.0 c.if-not-is_rested.false in
-    let closed = none_of held.job (sym c.is_some.ensures ∙ c.if-is_some.false) in
-    let fair : Fair s.ticks (released held s.ticks (Some c.begun.result)) = rw c.begun.ensures (released_fair s.ticks x.line held c.plan_at-plan.result (self.fair x.place) rested closed) in
-    record { ticked = self.ticked; fair = each_set (Fair s.ticks) s.tasks x.place (released held s.ticks (Some c.begun.result)) self.fair fair }
-
 pub returns-clause-step : goal.returns-clause-step
 returns-clause-step g c =
-    let p = c.args.self.now.policy in
-    let m : Meaning = meaning g.P.Policy p in
     let s = c.args.self.now.state in
     let f = found _ _ _ _ c.in_ok-place.ensures in
     let held = get_or s.tasks c.in_ok-place.field-0.place unused in
     let rested = c.is_rested.ensures.0 c.if-not-is_rested.false in
     let closed = none_of held.job (sym c.is_some.ensures ∙ c.if-is_some.false) in
-    rw c.begun.ensures (accepted m s c.args.task _ f c.plan_at-plan.result (search rules) rested closed c.plan_at-plan.ensures)
+    rw c.begun.ensures (accepted _ s c.args.task _ f c.plan_at-plan.result (search rules) rested closed c.plan_at-plan.ensures)
