@@ -34,17 +34,15 @@ told_none {d = d} p n = cc (ap (λ x. ok_or x d) n)
 
 -- a test for something there
 pub none_of : {A : Type 0} (o : Option A) → is_some o ≡ false → o ≡ None
-none_of None e = refl
-none_of (Some x) e = cc
+none_of o e = grind arith
 
 pub some_of : {A : Type 0} (o : Option A) → is_some o ≡ true → (x : A) × (o ≡ Some x)
-some_of (Some x) e = (x, refl)
-some_of None e = cc
+some_of o e = grind arith
 
 -- places that are all 0
 pub zeros : (xs : List ℕ) → ((i : ℕ) → get_or xs i 0 ≡ 0) → xs ≡ replicate (length xs) 0
 zeros [] all = refl
-zeros (x ∷ xs) all = λ i. all 0 i ∷ zeros xs (λ k. all (suc k)) i
+zeros (x ∷ xs) all = grind (arith, zeros xs (λ k. all (suc k)), all 0)
 
 -- a refusal leaves the places of a shut engine
 pub refused_places : (takes : Line → Bool) (demand : Line → ℕ → ℕ) (ls : List Line) (places : List ℕ) (e : Refusal) → Answered takes demand ls places (Err e) → places ≡ replicate 32 0
@@ -58,8 +56,7 @@ pub few_of : (t : Table) → length (lines_of t) ≤ 32
 few_of t = omega (arith, t.few, length-take t.len t.lines)
 
 pub few_lines : (s : Option Setup) (ls : List Line) → open_lines s ≡ Some ls → length ls ≤ 32
-few_lines None ls e = cc
-few_lines (Some s) ls e = let is : lines_of s.table ≡ ls = cc in omega (arith, few_of s.table, ap length is)
+few_lines s ls e = grind (arith, few_of)
 
 -- a task that was found has a line of the open table, and stands one place before its number
 pub record Named (st : Status) (task : ℕ) (x : Found) : Type 0 where
@@ -83,7 +80,7 @@ found st st' task x (of_line {ls} {l} e n (is, same)) =
 module _ (s : State) (task : ℕ) (x : Found) (f : Named (status_of s) task x) where
   -- its record stands at its place
   pub held_at : get_or s.tasks x.place unused ≡ task_of s.tasks task
-  held_at = ap (λ i. get_or s.tasks i unused) f.place ∙ sym (task_at s.tasks task f.line.0.0)
+  held_at = grind (arith, task_at)
 
   pub place_few : x.place < 32
   place_few = omega (arith, f.place, f.line.0, few_lines s.setup f.lines f.there)
@@ -96,4 +93,4 @@ refused st st' task rule e (of_line s n (is, same)) = cc
 
 -- a status by its parts
 pub status_eq : (st st' : Status) → st.lines ≡ st'.lines → st.figures ≡ st'.figures → st.ticks ≡ st'.ticks → st.task ≡ st'.task → st ≡ st'
-status_eq st st' p q r s = λ i. record { lines = p i; figures = q i; ticks = r i; task = s i }
+status_eq st st' p q r s = grind arith

@@ -1,10 +1,8 @@
 -- A release, told by the record of its task at its place.
-use Rattle.std.proofs.Common.{◌≡◌, ℕ, ◌+◌, ◌<◌, ◌≤◌, length, true, get_or, set, None, Some, Ok, Err, sym, refl, ap, ◌∙◌, subst, inl, inr, ⊎_elim, arith}
+use Rattle.std.proofs.Common.{◌≡◌, ℕ, ◌+◌, ◌<◌, length, true, get_or, set, None, Some, Ok, Err, sym, refl, ap, ◌∙◌, subst, arith}
 use Rattle.std.specs.Option.{is_some}
-use Rattle.std.proofs.lemmas.Bool.{cases_eq, cases_lt}
 use Rattle.tasks.specs.declared.line.Line.{Line}
 use Rattle.tasks.specs.declared.job.Plan.{Plan}
-use Rattle.tasks.specs.declared.job.Plan.TheVariants.{Bare, Detect, Correct, Recover}
 use Rattle.tasks.specs.declared.refusal.Refusal.TheVariants.{TooEarly, JobOpen}
 use Rattle.policies.specs.Promises.{Meaning}
 use Rattle.engine.specs.declared.questions.Found.{Found}
@@ -19,10 +17,7 @@ use Rattle.engine.proofs.Found.{Named, held_at, some_of, status_eq}
 
 -- a task that is not rested was released, less than a period ago
 unrested : (now : ℕ) (l : Line) (t : Task) → (Rested now l t → ⊥) → (0 < t.releases) × (now < t.last + l.period)
-unrested now l t no-rest = (
-  ⊎_elim (λ (z : t.releases ≡ 0). absurd (no-rest (inl z))) (λ (nz : t.releases ≡ 0 → ⊥). omega arith) (cases_eq t.releases 0),
-  ⊎_elim (λ (k : now < t.last + l.period). k) (λ (k : t.last + l.period ≤ now). absurd (no-rest (inr k))) (cases_lt now (t.last + l.period)),
-)
+unrested now l t no-rest = grind arith
 
 module _ (m : Meaning) (s : State) (task : ℕ) (x : Found) (f : Named (status_of s) task x) where
   -- the record of the task
@@ -53,18 +48,6 @@ module _ (m : Meaning) (s : State) (task : ℕ) (x : Found) (f : Named (status_o
       ap (λ (t : Task). put task (new t) was.task) (sym at) ∙ sym (task_set s.tasks task x.place (new held) f.line.0.0 f.place room) in
       subst (Release m was task (Ok p)) (status_eq (record { lines = was.lines; figures = was.figures; ticks = was.ticks; task = put task (new (was.task task)) was.task }) _ refl refl refl records) step
 
--- the first version of a plan has a tick left, and no more than a version may have
-begun_left : (l : Line) (p : Plan) → (1 ≤ (begun l p).left) × ((begun l p).left ≤ 1000000)
-begun_left l Bare = omega (arith, l.ordered)
-begun_left l Detect = omega (arith, l.ordered)
-begun_left l Correct = omega (arith, l.ordered)
-begun_left l Recover = omega (arith, l.ordered)
-
 -- the record of a task just released is fair
 pub released_fair : (now : ℕ) (l : Line) (t : Task) (p : Plan) → Fair now t → Rested now l t → t.job ≡ None → Fair now (released t now (Some (begun l p)))
-released_fair now l t p fair rested closed =
-    let b = begun_left l p in
-    ⊎_elim
-    (λ (z : t.releases ≡ 0). omega (arith, fair, b))
-    (λ (k : t.last + l.period ≤ now). omega (arith, fair, b, l.ordered))
-    rested
+released_fair now l t p fair rested closed = grind (arith, l.ordered)

@@ -1,57 +1,30 @@
 -- No call of an engine has a choice: it has one answer, and leaves one status.
-use Rattle.std.proofs.Common.{◌≡◌, ℕ, ◌+◌, ◌-◌, ◌<◌, List, [], ◌∷◌, get_or, Err, Result, sym, refl, ap, ◌∙◌, ⊎_elim, arith}
-use Rattle.std.proofs.lemmas.List.{get_or_default}
+use Rattle.std.proofs.Common.{◌≡◌, ℕ, ◌+◌, ◌<◌, List, Err, Result, sym, refl, ap, ◌∙◌, arith}
+use Rattle.std.proofs.lemmas.Grind.{common_steps}
 use Rattle.tasks.specs.declared.line.Line.{Line}
 use Rattle.tasks.specs.declared.table.Table.{Table}
 use Rattle.tasks.specs.declared.refusal.Refusal.{Refusal}
-use Rattle.tasks.specs.declared.refusal.Refusal.TheVariants.{Text, FieldCount, Form, Value, PeriodFalls, NameUsed, TooManyLines, Declined, NoLines, Shut, AlreadyOpen, NoSuchTask, TooEarly, JobOpen, TickWord, TicksSpent}
 use Rattle.tasks.specs.Refused.{told}
 use Rattle.tasks.specs.Tables.{lines_of, Numbered}
 use Rattle.policies.specs.Promises.{Meaning}
-use Rattle.response.proofs.Single.{neither_below, answered_one}
+use Rattle.response.proofs.Single.{answered_one}
 use Rattle.engine.specs.declared.state.OpenJob.{OpenJob}
 use Rattle.engine.specs.Status.{Status}
 use Rattle.engine.specs.Steps.{opened, closed, Opening, already_open, unfit, opens, OfTask, no_table, no_task, of_line, Rested, ReleaseOn, early, still_open, starts, Release, CountsAsked, FigureAsked, Quiet, Turn, TickOn, idles, no_job, unheard, runs, Tick, unopened, spent, ticks, Sole}
 
 -- ---- refusals and lines
 
--- the refusal that tells this
-abbrev telling : ℕ × ℕ × ℕ → Refusal
-telling x = get_or (Text ∷ Text ∷ FieldCount x.1 x.2 ∷ Form x.1 x.2 ∷ Value x.1 x.2 ∷ PeriodFalls x.1 x.2 ∷ NameUsed x.1 x.2 ∷ TooManyLines x.2
-    ∷ Declined x.1 ∷ NoLines ∷ Shut ∷ AlreadyOpen ∷ NoSuchTask ∷ TooEarly ∷ JobOpen ∷ TickWord ∷ TicksSpent ∷ []) x.0 Text
-
--- the refusal back from what it tells
-told_back : (e : Refusal) → telling (told e) ≡ e
-told_back Text = refl
-told_back (FieldCount l p) = refl
-told_back (Form l p) = refl
-told_back (Value l p) = refl
-told_back (PeriodFalls l p) = refl
-told_back (NameUsed l p) = refl
-told_back (TooManyLines p) = refl
-told_back (Declined l) = refl
-told_back NoLines = refl
-told_back Shut = refl
-told_back AlreadyOpen = refl
-told_back NoSuchTask = refl
-told_back TooEarly = refl
-told_back JobOpen = refl
-told_back TickWord = refl
-told_back TicksSpent = refl
-
 -- refusals that tell the same are the same
 pub told_one : (e e' : Refusal) (x : ℕ × ℕ × ℕ) → told e ≡ x → told e' ≡ x → e ≡ e'
-told_one e e' x p q = sym (told_back e) ∙ ap telling (p ∙ sym q) ∙ told_back e'
+told_one e e' x p q = grind arith
 
 -- a number names one line
 pub same_line : (ls : List Line) (n : ℕ) (l l' : Line) → Numbered ls n l → Numbered ls n l' → l ≡ l'
-same_line ls n l l' (is, e) (is', e') = e ∙ get_or_default ls (n - 1) l l' (omega arith) ∙ sym e'
-
--- ---- refusals
+same_line ls n l l' a b = grind (arith, common_steps)
 
 -- one refusal tells x; it leaves the status
 refused_one : {A : Type 0} {e e' : Refusal} {x : ℕ × ℕ × ℕ} {st : Status} → told e ≡ x → told e' ≡ x → (◌≡◌ {A = Result A Refusal} (Err e) (Err e')) × (st ≡ st)
-refused_one {A} {e} {e'} {x} p q = (ap Err (told_one e e' x p q), refl)
+refused_one p q = grind (arith, told_one)
 
 -- ---- opening
 
@@ -86,7 +59,7 @@ of_task_sole st task rule one r r' s s' (of_line {ls} {l} a n x) (of_line {ls = 
 
 -- no task is early and rested
 rested_clash : (st : Status) (task : ℕ) (l : Line) → 0 < (st.task task).releases → st.ticks < (st.task task).last + l.period → Rested st.ticks l (st.task task) → ⊥
-rested_clash st task l some soon = ⊎_elim (λ h. omega arith) (λ h. omega arith)
+rested_clash st task l some soon rested = grind arith
 
 -- to release the task of a line
 release_on_sole : (m : Meaning) (st : Status) (task : ℕ) (l : Line) → Sole (ReleaseOn m st task l)
@@ -128,9 +101,7 @@ turn_below {n = n} t t' h = cc (t'.first n t.line.0.0 h, t.job)
 
 -- one job has the turn
 turn_one : {st : Status} {ls : List Line} {n n' : ℕ} {l l' : Line} {o o' : OpenJob} → Turn st ls n l o → Turn st ls n' l' o' → (n ≡ n') × (l ≡ l') × (o ≡ o')
-turn_one {ls = ls} {n} {n'} {l} {l'} t t' =
-    let same = neither_below n n' (turn_below t t') (turn_below t' t) in
-    (same, same_line ls n l l' t.line (rw same t'.line), cc)
+turn_one t t' = grind (arith, same_line)
 
 -- a tick of an open engine that has ticks left
 tick_on_sole : (m : Meaning) (st : Status) (ls : List Line) (word : ℕ) → Sole (TickOn m st ls word)

@@ -1,29 +1,25 @@
 -- A tick, told by the records of the tasks at their places.
 use Rattle.std.proofs.Common.{◌≡◌, ℕ, zero, suc, ◌+◌, ◌-◌, ◌<◌, ◌≤◌, true, false, not, ◌⊎◌, List, [], ◌∷◌, length, get_or, take, set, None, Some, Ok, Err, Option, sym, refl, ap, ◌∙◌, subst, inl, inr, ⊎_elim, arith}
 use denote.Enum.Bare.{sameb}
-use Rattle.std.proofs.lemmas.List.{get_or_default, get_or-take, get_or_past, length-take}
-use Rattle.std.proofs.lemmas.Bool.{cases_eq, cases_lt}
+use Rattle.std.proofs.lemmas.List.{get_or_past, length-take}
+use Rattle.std.proofs.lemmas.Bool.{cases_eq}
 use Rattle.std.proofs.lemmas.Bool.Decides.{nat_tests}
+use Rattle.std.proofs.lemmas.Grind.{common_steps}
 use Rattle.tasks.specs.declared.line.Line.{Line}
-use Rattle.tasks.specs.declared.job.Plan.{Plan}
-use Rattle.tasks.specs.declared.job.Plan.TheVariants as plan
-use Rattle.tasks.specs.declared.job.Version.{Version}
-use Rattle.tasks.specs.declared.job.Version.TheVariants.{Bare, Detect, Correct}
 use Rattle.tasks.specs.declared.job.Outcome.{Outcome}
-use Rattle.tasks.specs.declared.job.Outcome.TheVariants.{Idle, On, Again, Ended}
+use Rattle.tasks.specs.declared.job.Outcome.TheVariants.{On}
 use Rattle.tasks.specs.declared.refusal.Refusal.TheVariants.{TickWord}
 use Rattle.tasks.specs.Tables.{Numbered}
 use Rattle.policies.specs.Promises.{Meaning}
 use Rattle.engine.specs.contracts.word.Word.{the_type}
 use Rattle.engine.specs.declared.word.Word.{Word}
-use Rattle.engine.specs.declared.word.Word.TheVariants.{GoesOn, Fault}
-use Rattle.engine.specs.declared.word.Word.TheVariants as word
+use Rattle.engine.specs.declared.word.Word.TheVariants.{GoesOn}
 use Rattle.engine.specs.declared.state.OpenJob.{OpenJob}
 use Rattle.engine.specs.declared.state.Task.{Task}
 use Rattle.engine.specs.declared.state.State.{State}
-use Rattle.engine.specs.Jobs.{unused, heard, faulted, task_after}
+use Rattle.engine.specs.Jobs.{unused, heard, task_after}
 use Rattle.engine.specs.Words.{said_by}
-use Rattle.engine.specs.Kept.{busy, left, Fair}
+use Rattle.engine.specs.Kept.{Fair}
 use Rattle.engine.specs.Status.{Status, open_lines, task_of, put, status_of, most_ticks}
 use Rattle.engine.specs.Steps.{Quiet, Turn, later, Tick, no_job, unheard, runs, ticks}
 use Rattle.engine.specs.Lookups.{FirstOpen}
@@ -35,34 +31,26 @@ use Rattle.engine.proofs.Found.{status_eq}
 module _ (s : State) (ls : List Line) (n : ℕ) (count : n ≡ length ls) where
   -- the record with the number k stands among the first n
   among : (k : ℕ) → 1 ≤ k → k ≤ n → task_of s.tasks k ≡ get_or (take n s.tasks) (k - 1) unused
-  among k pos below = task_at s.tasks k pos ∙ sym (get_or-take n s.tasks (k - 1) unused (omega arith))
+  among k pos below = grind (arith, common_steps)
 
   pub all_quiet : ((k : ℕ) → k < length (take n s.tasks) → (get_or (take n s.tasks) k unused).job ≡ None) → Quiet (status_of s) ls
-  all_quiet closed k is = ap (λ (t : Task). t.job) (among k is.0 (omega (arith, is.1))) ∙ ⊎_elim
-      (closed (k - 1))
-      (λ past. ap (λ (t : Task). t.job) (get_or_past (take n s.tasks) (k - 1) unused past))
-      (cases_lt (k - 1) (length (take n s.tasks)))
+  all_quiet closed k is = grind (arith, among k, closed (k - 1), get_or_past)
 
   pub first_turn : (place : ℕ) (l : Line) (o : OpenJob) → FirstOpen (take n s.tasks) place o → l ≡ get_or ls place l → Turn (status_of s) ls (place + 1) l o
-  first_turn place l o f line =
-      let inside : place < n = omega (arith, f.within, length-take n s.tasks) in
-      let back : place ≡ place + 1 - 1 = omega arith in
-      record {
-        line = ((omega arith, omega arith), subst (λ (i : ℕ). l ≡ get_or ls i l) back line);
-        job = ap (λ (t : Task). t.job) (among (place + 1) (omega arith) (omega arith)) ∙ subst (λ (i : ℕ). (get_or (take n s.tasks) i unused).job ≡ Some o) back f.job;
-        first = λ k pos below. ap (λ (t : Task). t.job) (among k pos (omega arith)) ∙ f.before (k - 1) (omega arith);
-      }
+  first_turn place l o f line = record {
+    line = grind (arith, f.within, length-take);
+    job = grind (arith, among (place + 1), f.within, f.job, length-take);
+    first = λ k pos below. grind (arith, among k, f.before (k - 1), f.within, length-take);
+  }
 
 -- a number up to the count of lines has a line
 numbered_at : (ls : List Line) (n : ℕ) → 1 ≤ n → n ≤ length ls → (l : Line) × Numbered ls n l
 numbered_at [] n pos le = absurd (omega arith)
-numbered_at (d ∷ ls) n pos le = (get_or (d ∷ ls) (n - 1) d, ((pos, le), get_or_default (d ∷ ls) (n - 1) d (get_or (d ∷ ls) (n - 1) d) (omega arith)))
+numbered_at (d ∷ ls) n pos le = (get_or (d ∷ ls) (n - 1) d, grind (arith, common_steps))
 
 -- the record at its place has the job
 pub turn_job : (s : State) (ls : List Line) (place : ℕ) (l : Line) (o : OpenJob) → Turn (status_of s) ls (place + 1) l o → (get_or s.tasks place unused).job ≡ Some o
-turn_job s ls place l o turn =
-    let back : place ≡ place + 1 - 1 = omega arith in
-    ap (λ i. (get_or s.tasks i unused).job) back ∙ ap (λ (t : Task). t.job) (sym (task_at s.tasks (place + 1) (omega arith))) ∙ turn.job
+turn_job s ls place l o turn = grind arith
 
 -- ---- a tick that no job hears
 
@@ -80,10 +68,7 @@ first_among f (suc n) = ⊎_elim
     by_last none (Some o) e = inr (suc n, o, omega arith, omega arith, e, λ j pos less. none j pos (omega arith))
 
 heard_none : (o : OpenJob) (word : ℕ) → 2 < word → heard o word ≡ None
-heard_none o zero h = absurd (omega arith)
-heard_none o (suc zero) h = absurd (omega arith)
-heard_none o (suc (suc zero)) h = absurd (omega arith)
-heard_none o (suc (suc (suc n))) h = refl
+heard_none o word high = grind arith
 
 -- a word above 2 is refused, whether a job is open or not
 pub unsaid : (m : Meaning) (st : Status) (ls : List Line) (word : ℕ) → st.lines ≡ Some ls → st.ticks < most_ticks → 2 < word → Tick m st word (Err TickWord) st
@@ -100,14 +85,10 @@ heard_by o w said told is = cc (ap (heard o) said)
 
 -- a word tested for `GoesOn`
 pub goes_on : (w : Word) → false ≡ not (sameb the_type w GoesOn) → said_by w ≡ 0
-goes_on GoesOn e = refl
-goes_on word.Ended e = cc
-goes_on Fault e = cc
+goes_on w e = grind arith
 
 pub goes_not : (w : Word) → true ≡ not (sameb the_type w GoesOn) → 0 < said_by w
-goes_not GoesOn e = cc
-goes_not word.Ended e = omega arith
-goes_not Fault e = omega arith
+goes_not w e = grind arith
 
 -- ---- a tick to that job
 
@@ -127,24 +108,10 @@ module _ (m : Meaning) (s : State) (ls : List Line) (there : open_lines s.setup 
 
 -- ---- what is left after a tick
 
-not_on : (v : Version) (p : Plan) → faulted v p ≡ Some On → ⊥
-not_on Bare p e = cc
-not_on Correct p e = cc
-not_on Detect plan.Bare e = cc
-not_on Detect plan.Detect e = cc
-not_on Detect plan.Correct e = cc
-not_on Detect plan.Recover e = cc
-
 -- a job that goes on had a second tick left
 pub on_left : (o : OpenJob) (word : ℕ) → heard o word ≡ Some On → 1 < o.left
-on_left o zero e = grind (arith, nat_tests)
-on_left o (suc zero) e = cc
-on_left o (suc (suc zero)) e = absurd (not_on o.version o.plan e)
-on_left o (suc (suc (suc n))) e = cc
+on_left o word e = grind (arith, nat_tests)
 
 -- the record of a task is fair after a tick to its job
 pub after_fair : (m : Meaning) (now : ℕ) (l : Line) (t : Task) (o : OpenJob) (x : Outcome) (word : ℕ) → heard o word ≡ Some x → t.job ≡ Some o → Fair now t → Fair (now + 1) (task_after m l t o x)
-after_fair m now l t o Idle word e j f = omega (arith, ap busy j, ap left j)
-after_fair m now l t o On word e j f = let h = on_left o word e in omega (arith, ap busy j, ap left j)
-after_fair m now l t o Again word e j f = omega (arith, l.ordered, ap busy j)
-after_fair m now l t o (Ended x) word e j f = omega (arith, ap busy j)
+after_fair m now l t o x word e j f = grind (arith, l.ordered, on_left)
