@@ -1,8 +1,10 @@
 -- Bytes cut at their first mark.
-use Rattle.std.proofs.Common.{◌≡◌, ℕ, suc, ◌+◌, ◌-◌, ◌<◌, ◌≤◌, Bool, true, false, cond, eqb, List, [], ◌∷◌, length, take, drop, sym, refl, ap, ◌∙◌, ⊎_elim, add-one, one-add, arith, length-drop}
-use Rattle.std.proofs.lemmas.List.{take_rest, drop-drop, take_all, length-take-le, nil_from_length}
-use Rattle.std.proofs.lemmas.Bool.{cases_lt}
-use Rattle.text.specs.Cuts.{Placed, placed, in_front, parted, ended, lead, count}
+use Rattle.std.proofs.Common.{◌≡◌, ℕ, zero, suc, ◌+◌, ◌-◌, ◌<◌, ◌≤◌, Bool, true, false, cond, eqb, List, [], ◌∷◌, length, take, drop, sym, refl, ap, ◌∙◌, ⊎_elim, add-one, one-add, arith, length-drop, ltb, position, count_by, subst, Some, None, Option, MatchOption, ◌==◌}
+use Rattle.std.specs.List.{position_or_len}
+use Rattle.std.proofs.lemmas.List.{length-take-le}
+use Rattle.std.proofs.lemmas.List.Recursion.{is_position_or_len, is_count_by}
+use Rattle.std.proofs.lemmas.Bool.{cases_lt, ltb-true, ltb-false, eq-eqb, false≢true}
+use Rattle.text.specs.Cuts.{Placed, placed, in_front, parted, ended, closed, lead, count, last_byte}
 use Rattle.text.specs.Layers.{Cut}
 
 -- ---- with a mark
@@ -83,47 +85,141 @@ pub length_parted : (c p : ℕ) (bs : List ℕ) → length (parted c p bs) ≡ s
 length_parted c p [] = refl
 length_parted c p (b ∷ bs) = length_step (eqb b c) b c p bs (length_parted c (p + 1) bs)
 
+-- ---- as the code finds a mark, and counts them
+
+lead_is : (c : ℕ) (bs : List ℕ) → lead c bs ≡ position_or_len (λ b. b == c) bs
+lead_is c bs = is_position_or_len (lead c) (λ b. b == c) refl (λ b bs. ap (λ n. cond (b == c) 0 n) (sym (one-add (lead c bs)))) bs
+
+found : (c : ℕ) (bs : List ℕ) (t : Bool) → ltb (lead c bs) (length bs) ≡ t → MatchOption (cond t (Some (lead c bs)) None) (count c bs ≡ 0) (λ at. (at ≡ lead c bs) × (at < length bs))
+found c bs true e = (refl, ltb-true (lead c bs) (length bs) e)
+found c bs false e = unmarked c bs (ltb-false (lead c bs) (length bs) e)
+
+pub first_is : (c : ℕ) (bs : List ℕ) (r : Option ℕ) → r ≡ position (λ b. b == c) bs → MatchOption r (count c bs ≡ 0) (λ at. (at ≡ lead c bs) × (at < length bs))
+first_is c bs r e =
+    let at = lead_is c bs in
+    subst (λ o. MatchOption o (count c bs ≡ 0) (λ at. (at ≡ lead c bs) × (at < length bs)))
+    ((λ i. cond (ltb (at i) (length bs)) (Some (at i)) None) ∙ sym e)
+    (found c bs (ltb (lead c bs) (length bs)) refl)
+
+pub count_is : (c : ℕ) (bs : List ℕ) → count c bs ≡ count_by (λ b. b == c) bs
+count_is c bs = is_count_by (count c) (λ b. b == c) refl (λ b bs. ap (λ n. cond (b == c) n (count c bs)) (sym (one-add (count c bs)))) bs
+
 -- ---- as the code cuts
 
-module _ (c p n q : ℕ) (bs front after : List ℕ) (lead_is : n ≡ lead c bs) (front-is : front ≡ take n bs) (after_is : after ≡ drop n bs) where
-  pub cut_marked : 1 ≤ length after → q ≡ p + n + 1 → Cut c (placed p bs) (placed p front) (placed q (take (length after - 1) (drop 1 after)))
-  cut_marked some at =
-      let room : n < length bs = omega (arith, ap length after_is, length-drop n bs) in
+module _ (c p n q : ℕ) (bs front rest : List ℕ) (at : n ≡ lead c bs) (room : n < length bs) (front_is : front ≡ take n bs) (rest_is : rest ≡ drop (n + 1) bs) where
+  behind : rest ≡ drop (suc (lead c bs)) bs
+  behind = rest_is ∙ ap (λ i. drop i bs) (add-one n ∙ ap suc at)
+
+  before : take (lead c bs) bs ≡ front
+  before = ap (λ i. take i bs) (sym at) ∙ sym front_is
+
+  pub cut_marked : q ≡ p + (n + 1) → Cut c (placed p bs) (placed p front) (placed q rest)
+  cut_marked place_is =
       let k = first_at c p bs (marked c bs (omega arith)) in
-      let rest_is : take (length after - 1) (drop 1 after) ≡ drop (suc (lead c bs)) bs = take_rest after 1 ∙ ap (drop 1) after_is ∙ drop-drop 1 n bs ∙ ap (λ i. drop i bs) (add-one n ∙ ap suc lead_is) in
       let place : p + suc (lead c bs) ≡ q = omega arith in
-      let before : take (lead c bs) bs ≡ front = ap (λ i. take i bs) (sym lead_is) ∙ sym front-is in
-      let size : n + 1 + length (take (length after - 1) (drop 1 after)) ≡ length bs = omega (arith, ap length rest_is, length-drop (suc (lead c bs)) bs, k.within) in
+      let size : n + 1 + length rest ≡ length bs = omega (arith, ap length behind, length-drop (suc (lead c bs)) bs) in
       record {
-        fields = λ _. k.parts ∙ (λ i. placed p (before i) ∷ parted c (place i) (sym rest_is i));
-        left = λ _. k.marks ∙ sym (one-add (count c (drop (suc (lead c bs)) bs))) ∙ ap (λ r. 1 + count c r) (sym rest_is);
-        lines = λ _. k.ends ∙ (λ i. placed p (before i) ∷ ended c (place i) (sym rest_is i));
+        fields = λ _. k.parts ∙ (λ i. placed p (before i) ∷ parted c (place i) (sym behind i));
+        left = λ _. k.marks ∙ sym (one-add (count c (drop (suc (lead c bs)) bs))) ∙ ap (λ r. 1 + count c r) (sym behind);
+        lines = λ _. k.ends ∙ (λ i. placed p (before i) ∷ ended c (place i) (sym behind i));
         shorter = λ _. omega arith;
         within = omega arith;
-        before = omega (arith, ap length front-is, length-take-le n bs (omega arith));
+        before = omega (arith, ap length front_is, length-take-le n bs (omega arith));
       }
 
-  pub cut_unmarked : length after ≡ 0 → q ≡ p + n → n ≤ length bs → Cut c (placed p bs) (placed p front) (placed q after)
-  cut_unmarked none at room =
-      let all : length bs ≤ n = omega (arith, ap length after_is, length-drop n bs) in
-      let zero_marks : count c bs ≡ 0 = unmarked c bs (omega arith) in
-      let whole : front ≡ bs = front-is ∙ take_all n bs all in
-      let empty : after ≡ [] = nil_from_length after none in
-      record {
-        fields = λ h. absurd (omega arith);
-        left = λ h. absurd (omega arith);
-        lines = λ h. lines_alone h (no_mark c p bs zero_marks).1 ∙ (λ i. placed p (sym whole i) ∷ ended c q (sym empty i));
-        shorter = λ h. omega arith;
-        within = omega arith;
-        before = omega (arith, ap length whole);
-      }
-    where
-      lines_alone : 1 ≤ length bs → ended c p bs ≡ alone p bs → ended c p bs ≡ placed p bs ∷ []
-      lines_alone h e = e ∙ only bs h
-        where
-          only : (xs : List ℕ) → 1 ≤ length xs → alone p xs ≡ placed p xs ∷ []
-          only [] l = absurd (omega arith)
-          only (x ∷ xs) l = refl
+  pub closed_marked : q ≡ p + (n + 1) → closed c p bs ≡ placed p front ∷ closed c q rest
+  closed_marked place_is =
+      let k = first_at c p bs (marked c bs (omega arith)) in
+      let place : p + suc (lead c bs) ≡ q = omega arith in
+      (λ i. take (k.marks i) (k.parts i)) ∙ (λ i. placed p (before i) ∷ take (count c (sym behind i)) (parted c (place i) (sym behind i)))
+
+pub closed_none : (c p : ℕ) (bs : List ℕ) → count c bs ≡ 0 → closed c p bs ≡ []
+closed_none c p bs none = ap (λ n. take n (parted c p bs)) none
+
+pub cut_unmarked : (c p q : ℕ) (bs : List ℕ) → count c bs ≡ 0 → q ≡ p + length bs → Cut c (placed p bs) (placed p bs) (placed q [])
+cut_unmarked c p q bs none at = record {
+  fields = λ h. absurd (omega arith);
+  left = λ h. absurd (omega arith);
+  lines = λ h. (no_mark c p bs none).1 ∙ only bs h;
+  shorter = λ h. omega arith;
+  within = omega arith;
+  before = omega arith;
+}
+  where
+    only : (xs : List ℕ) → 1 ≤ length xs → alone p xs ≡ placed p xs ∷ []
+    only [] l = absurd (omega arith)
+    only (x ∷ xs) l = refl
+
+-- ---- where parts stand
+
+-- each part ends at place n at most
+abbrev pub AllUpTo : ℕ → List Placed → Type 0
+AllUpTo n [] = Unit {0}
+AllUpTo n (q ∷ qs) = (q.place + length q.bytes ≤ n) × AllUpTo n qs
+
+record From (p n : ℕ) (qs : List Placed) : Type 0 where
+  first : Placed
+  others : List Placed
+  is : qs ≡ first ∷ others
+  place : first.place ≡ p
+  up : AllUpTo n qs
+
+from_step : (t : Bool) (b p n : ℕ) (qs : List Placed) → p ≤ n → From (p + 1) n qs → From p n (cond t (placed p [] ∷ qs) (in_front b p qs))
+from_step true b p n qs small f = record { first = placed p []; others = qs; is = refl; place = refl; up = (omega arith, f.up) }
+from_step false b p n qs small f =
+    let u = subst (AllUpTo n) f.is f.up in
+    record {
+      first = placed p (b ∷ f.first.bytes);
+      others = f.others;
+      is = ap (in_front b p) f.is;
+      place = refl;
+      up = subst (λ q. AllUpTo n (in_front b p q)) (sym f.is) (omega (arith, u.0, f.place), u.1);
+    }
+
+parted_from : (c p n : ℕ) (bs : List ℕ) → p + length bs ≤ n → From p n (parted c p bs)
+parted_from c p n [] small = record { first = placed p []; others = []; is = refl; place = refl; up = (omega arith, tt) }
+parted_from c p n (b ∷ bs) small = from_step (b == c) b p n (parted c (p + 1) bs) (omega arith) (parted_from c (p + 1) n bs (omega arith))
+
+some_up : (n k : ℕ) (qs : List Placed) → AllUpTo n qs → AllUpTo n (take k qs)
+some_up n zero qs u = tt
+some_up n (suc k) [] u = tt
+some_up n (suc k) (q ∷ qs) u = (u.0, some_up n k qs u.1)
+
+pub closed_up : (c p n : ℕ) (bs : List ℕ) → p + length bs ≤ n → AllUpTo n (closed c p bs)
+closed_up c p n bs small = some_up n (count c bs) (parted c p bs) (parted_from c p n bs small).up
+
+-- ---- parts that end in a mark
+
+closed_step : (t : Bool) (b c p n : ℕ) (qs : List Placed) (y : Placed) (ys : List Placed) → qs ≡ y ∷ ys →
+    cond t (placed p [] ∷ take (suc n) qs) (in_front b p (take (suc n) qs)) ≡ take (cond t (suc (suc n)) (suc n)) (cond t (placed p [] ∷ qs) (in_front b p qs))
+closed_step true b c p n qs y ys e = refl
+closed_step false b c p n qs y ys e = ap (λ q. in_front b p (take (suc n) q)) e ∙ ap (λ q. take (suc n) (in_front b p q)) (sym e)
+
+one_step : (t : Bool) (b c p : ℕ) → t ≡ true → cond t (placed p [] ∷ []) (in_front b p []) ≡ take (cond t 1 0) (cond t (placed p [] ∷ placed (p + 1) [] ∷ []) (in_front b p (placed (p + 1) [] ∷ [])))
+one_step true b c p e = refl
+one_step false b c p e = absurd (false≢true e)
+
+some_marks : (c : ℕ) (bs : List ℕ) → 1 ≤ length bs → last_byte bs ≡ c → 1 ≤ count c bs
+some_marks c [] h e = absurd (omega arith)
+some_marks c (b ∷ []) h e = rw (eq-eqb b c e) (omega arith)
+some_marks c (b ∷ d ∷ bs) h e = more (b == c) (count c (d ∷ bs)) (some_marks c (d ∷ bs) (omega arith) e)
+  where
+    more : (t : Bool) (n : ℕ) → 1 ≤ n → 1 ≤ cond t (suc n) n
+    more true n l = omega arith
+    more false n l = l
+
+-- where a mark stands last, each part ends in one
+pub ended_closed : (c p : ℕ) (bs : List ℕ) → last_byte bs ≡ c → ended c p bs ≡ closed c p bs
+ended_closed c p [] e = refl
+ended_closed c p (b ∷ []) e = one_step (b == c) b c p (eq-eqb b c e)
+ended_closed c p (b ∷ d ∷ bs) e =
+    let n = count c (d ∷ bs) - 1 in
+    let marks : count c (d ∷ bs) ≡ suc n = omega (arith, some_marks c (d ∷ bs) (omega arith) e) in
+    let q = parted_from c (p + 1) (p + 1 + length (d ∷ bs)) (d ∷ bs) (omega arith) in
+    ap (λ x. cond (b == c) (placed p [] ∷ x) (in_front b p x)) (ended_closed c (p + 1) (d ∷ bs) e)
+    ∙ (λ i. cond (b == c) (placed p [] ∷ take (marks i) (parted c (p + 1) (d ∷ bs))) (in_front b p (take (marks i) (parted c (p + 1) (d ∷ bs)))))
+    ∙ closed_step (b == c) b c p n (parted c (p + 1) (d ∷ bs)) q.first q.others q.is
+    ∙ (λ i. take (cond (b == c) (suc (sym marks i)) (sym marks i)) (cond (b == c) (placed p [] ∷ parted c (p + 1) (d ∷ bs)) (in_front b p (parted c (p + 1) (d ∷ bs)))))
 
 -- a list of parts, from its first on
 pub chain : {s : Placed} {a b c : List Placed} → a ≡ s ∷ b → b ≡ c → a ≡ s ∷ c

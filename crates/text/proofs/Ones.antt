@@ -56,3 +56,11 @@ bits_back (b ∷ bs) w h at =
     let whole : w % 2 + 2 * (w / 2) ≡ w = omega arith in
     let ih = bits_back bs (w / 2) half (λ j l. at (suc j) (omega arith) ∙ ap (λ x. 48 + bit x (suc j)) (sym whole) ∙ ap (λ x. 48 + x) (bit_up (w % 2) (w / 2) j (omega arith))) in
     (and_from (binary b) (every binary bs) (and_from (leb 48 b) (leb b 49) (le-leb 48 b (omega arith)) (le-leb b 49 (omega arith))) ih.0, omega (arith, ih.1))
+
+pub bits_below : (bs : List ℕ) → every binary bs ≡ true → bits_of bs < 2 ^ length bs
+bits_below [] e = omega arith
+bits_below (b ∷ bs) e =
+    let p = and_parts (binary b) (every binary bs) e in
+    let ih = bits_below bs p.1 in
+    let q = leb-true b 49 (and_parts (leb 48 b) (leb b 49) p.0).1 in
+    rw pow-suc (omega arith)

@@ -1,14 +1,13 @@
 -- A text that keeps the rules of a text is read line by line.
-use Rattle.std.proofs.Common.{◌≡◌, ℕ, ◌<◌, ◌≤◌, Bool, true, false, cond, ◌&&◌, eqb, leb, List, [], length, is_err, Some, None, Ok, Err, Result, refl, ap, ◌∙◌, ⊎_elim, arith, MatchResult}
-use Rattle.std.proofs.lemmas.Bool.{le-leb, eqb-true, false≢true, true≢false, cases_lt}
+use Rattle.std.proofs.Common.{◌≡◌, ℕ, ◌<◌, ◌≤◌, Bool, true, false, cond, ◌&&◌, eqb, leb, List, [], length, Some, None, Ok, Err, Result, refl, ap, ◌∙◌, ⊎_elim, arith, MatchResult}
+use Rattle.std.proofs.lemmas.Bool.{le-leb, eqb-true, true≢false, cases_lt}
 use Rattle.tasks.specs.Rows.{rows_of}
-use Rattle.tasks.specs.Tables.{lines_of}
 use Rattle.tasks.specs.declared.refusal.Refusal.{Refusal}
 use Rattle.tasks.specs.declared.refusal.Refusal.TheVariants.{Text}
 use Rattle.tasks.specs.declared.table.Table.{Table}
 use Rattle.text.specs.Cuts.{last_byte, lines_in}
 use Rattle.text.specs.Rules.{text_rules}
-use Rattle.text.specs.Reading.{unless, with_lines, reading, Reads}
+use Rattle.text.specs.Reading.{unless, with_lines, reading}
 use Rattle.text.proofs.Broken.{none_broken}
 use Rattle.text.proofs.Steps.{last_none}
 
@@ -36,12 +35,3 @@ pub refused_text : (text : List ℕ) → (leb (length text) 8192 && eqb (last_by
 unfolding reading
 refused_text text h =
     ap (λ o. unless o (with_lines [] (lines_in text))) (broken_text (leb 1 (length text)) (leb (length text) 8192) (eqb (last_byte text) 10) Text h)
-
--- after a refusal the table has no lines
-pub cleared : (text : List ℕ) (r : Result Unit Refusal) (t u : Table) → MatchResult r (λ _. reading text ≡ Ok (rows_of t)) (λ e. reading text ≡ Err e) → is_err r ≡ true → lines_of u ≡ [] → Reads text r u
-cleared text (Ok x) t u h e n = absurd (false≢true e)
-cleared text (Err x) t u h e n = (h, n)
-
-pub filled : (text : List ℕ) (r : Result Unit Refusal) (t : Table) → MatchResult r (λ _. reading text ≡ Ok (rows_of t)) (λ e. reading text ≡ Err e) → is_err r ≡ false → Reads text r t
-filled text (Ok x) t h e = h
-filled text (Err x) t h e = absurd (true≢false e)

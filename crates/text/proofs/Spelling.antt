@@ -11,10 +11,11 @@ use Rattle.tasks.specs.declared.technique.Technique.{Technique}
 use Rattle.tasks.specs.declared.technique.Technique.TheVariants.{Fr, Sre, Sdr, Dre, Ddr}
 use Rattle.text.specs.Cuts.{count}
 use Rattle.text.specs.Forms.{binary, no_leading_zero, is_number, is_bits, is_byte, is_r, is_e, is_pattern}
-use Rattle.text.specs.Values.{number_of, bits_of, fits, field_word}
+use Rattle.text.specs.Values.{number_of, bits_of, fits, field_word, SaysPattern}
+use Rattle.text.specs.declared.value.PatternValue.TheVariants as pattern_value
 use Rattle.text.specs.Law.{Bits}
 use Rattle.text.proofs.Steps.{numerals, number_digits, number_first, number_length, number_short}
-use Rattle.text.proofs.Ones.{ones_bits, bits_at, bits_back}
+use Rattle.text.proofs.Ones.{ones_bits, bits_at, bits_back, bits_below}
 
 -- ---- numbers
 
@@ -61,7 +62,8 @@ Ways m k w bs =
     ⊎ (((bs ≡ codes "E") × (w ≡ pattern_word pattern.E m k))
     ⊎ Bits k w bs)
 
-word_at : (a b : Bool) (m k : ℕ) (bs : List ℕ) → is_r bs ≡ a → is_e bs ≡ b → field_word m k bs ≡ cond a (pattern_word pattern.R m k) (cond b (pattern_word pattern.E m k) (bits_of bs))
+-- the word of a field, by its letters
+pub word_at : (a b : Bool) (m k : ℕ) (bs : List ℕ) → is_r bs ≡ a → is_e bs ≡ b → field_word m k bs ≡ cond a (pattern_word pattern.R m k) (cond b (pattern_word pattern.E m k) (bits_of bs))
 word_at a b m k bs r e = (λ i. cond (r i) (pattern_word pattern.R m k) (cond (e i) (pattern_word pattern.E m k) (bits_of bs)))
 
 stands_by : (a b : Bool) (m k : ℕ) (bs : List ℕ) → is_r bs ≡ a → is_e bs ≡ b → is_pattern bs ≡ true → fits m k bs ≡ true → Ways m k (field_word m k bs) bs
@@ -148,3 +150,34 @@ fine m k w bs some few narrow reliable (inr (inr r)) =
       word = sym back.1 ∙ sym (word_at false false m k bs n.0 n.1);
       lacks = (every_lacks binary 44 bs refl back.0, every_lacks binary 10 bs refl back.0);
     }
+
+-- ---- a pattern's bits, as they are read
+
+module _ (m k n w : ℕ) (bs : List ℕ) (said : SaysPattern bs (pattern_value.Bits n w)) where
+  ones_said : n ≡ k → ones k w ≡ count 49 bs
+  ones_said size =
+      let at : k ≡ length bs = omega (arith, said.3) in
+      (λ i. ones (at i) (said.5 i)) ∙ ones_bits bs said.2
+
+  fits_is : fits m k bs ≡ (eqb (length bs) k && eqb (count 49 bs) m)
+  fits_is = (λ i. said.0 i || (said.1 i || (eqb (length bs) k && eqb (count 49 bs) m)))
+
+  pub bits_fit : n ≡ k → ones k w ≡ m → (fits m k bs ≡ true) × (w ≡ field_word m k bs) × (ones k w ≡ m) × (w < 2 ^ k)
+  bits_fit size reliable =
+      let at : length bs ≡ k = omega (arith, said.3) in (
+        fits_is ∙ and_from (eqb (length bs) k) (eqb (count 49 bs) m) (eq-eqb (length bs) k at) (eq-eqb (count 49 bs) m (sym (ones_said size) ∙ reliable)),
+        said.5 ∙ sym (word_at false false m k bs said.0 said.1),
+        reliable,
+        subst (λ (x : ℕ). w < 2 ^ x) at (omega (arith, said.5, bits_below bs said.2)),
+      )
+
+  pub bits_unfit : (n ≡ k → ones k w ≡ m → ⊥) → fits m k bs ≡ false
+  bits_unfit unlike =
+      fits_is
+      ∙ and_false (eqb (length bs) k) (eqb (count 49 bs) m)
+      (λ s t. unlike (omega (arith, said.3, eqb-true (length bs) k s)) (ones_said (omega (arith, said.3, eqb-true (length bs) k s)) ∙ eqb-true (count 49 bs) m t))
+    where
+      and_false : (a b : Bool) → (a ≡ true → b ≡ true → ⊥) → (a && b) ≡ false
+      and_false true true h = absurd (h refl refl)
+      and_false true false h = refl
+      and_false false b h = refl

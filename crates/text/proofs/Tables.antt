@@ -54,18 +54,6 @@ module _ (up : List Row) (l : Placed) (fs : List Placed) (cut : fields_in l ≡ 
       ∙ ap (λ x. unless (first_broken (rules_at x up l fs)) (Ok (up ++ (row_said fs ∷ [])))) (sym at)
       ∙ ap (λ x. unless x (Ok (up ++ (row_said fs ∷ [])))) e
 
-  pub line_33 : 32 < n → with_line up l ≡ Err (refusal.TooManyLines l.place)
-  line_33 h =
-      line_is (Some (refusal.TooManyLines l.place))
-      (broken_first (count_rules n l fs) (head_rules n fs ++ (time_rules n fs ++ table_rules n up fs)) (refusal.TooManyLines l.place)
-      (λ i. cond (lt-leb n 32 h i) (cond (eqb (length fs) 9) None (Some (refusal.FieldCount n l.place))) (Some (refusal.TooManyLines l.place))))
-
-  pub not_nine : n ≤ 32 → eqb (length fs) 9 ≡ false → with_line up l ≡ Err (refusal.FieldCount n l.place)
-  not_nine h f =
-      line_is (Some (refusal.FieldCount n l.place))
-      (broken_first (count_rules n l fs) (head_rules n fs ++ (time_rules n fs ++ table_rules n up fs)) (refusal.FieldCount n l.place)
-      (λ i. cond (le-leb n 32 h i) (cond (f i) None (Some (refusal.FieldCount n l.place))) (Some (refusal.TooManyLines l.place))))
-
   module _ (few : n ≤ 32) (nine : eqb (length fs) 9 ≡ true) where
     counted : first_broken (count_rules n l fs) ≡ None
     counted = none_broken (count_rules n l fs) (le-leb n 32 few, (nine, tt))

@@ -1,5 +1,5 @@
 -- The five words and the techniques that they name.
-use Rattle.std.proofs.Common.{◌≡◌, ℕ, true, false, List, sym, refl, ap, ◌∙◌, subst, ⊎_elim}
+use Rattle.std.proofs.Common.{◌≡◌, ◌≢◌, ℕ, Some, None, Option, MatchOption, true, false, List, sym, refl, ap, ◌∙◌, subst, ⊎_elim}
 use Rattle.std.specs.Str.{bytes_eq}
 use Rattle.std.proofs.lemmas.Slice.Eq.{bytes_eq-Decides}
 use Rattle.std.proofs.lemmas.Bool.{or_cases, cases_Bool}
@@ -34,5 +34,10 @@ some_word bs e =
 pub word_back : (bs : List ℕ) → is_technique bs ≡ true → bs ≡ technique_word (technique_of bs)
 word_back bs e = let s = some_word bs e in s.1 ∙ ap technique_word (named bs s.0 s.1).1
 
-pub unnamed : (bs : List ℕ) → ((t : Technique) → bs ≡ technique_word t → ⊥) → is_technique bs ≡ false
+unnamed : (bs : List ℕ) → ((t : Technique) → bs ≡ technique_word t → ⊥) → is_technique bs ≡ false
 unnamed bs n = ⊎_elim (λ (t : is_technique bs ≡ true). absurd (n (technique_of bs) (word_back bs t))) (λ f. f) (cases_Bool (is_technique bs))
+
+-- what a word names, by its form
+pub named_is : (bs : List ℕ) (r : Option Technique) → MatchOption r ((t : Technique) → bs ≢ technique_word t) (λ t. bs ≡ technique_word t) → MatchOption r (is_technique bs ≡ false) (λ t. (is_technique bs ≡ true) × (t ≡ technique_of bs))
+named_is bs None h = unnamed bs h
+named_is bs (Some t) h = named bs t h

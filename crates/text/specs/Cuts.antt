@@ -1,5 +1,5 @@
 -- Bytes of a text with their place, cut at a mark into parts.
-use Rattle.std.specs.Prelude.{ℕ, suc, ◌+◌, cond, List, [], ◌∷◌, ◌==◌}
+use Rattle.std.specs.Prelude.{ℕ, suc, ◌+◌, cond, List, [], ◌∷◌, ◌==◌, take}
 
 -- bytes of a text, and the place of the first
 pub record Placed : Type 0 where
@@ -33,6 +33,10 @@ lead c (b ∷ bs) = cond (b == c) 0 (suc (lead c bs))
 abbrev pub count : ℕ → List ℕ → ℕ
 count c [] = 0
 count c (b ∷ bs) = cond (b == c) (suc (count c bs)) (count c bs)
+
+-- the parts that end in a byte c: all between them but the last
+abbrev pub closed : ℕ → ℕ → List ℕ → List Placed
+closed c p bs = take (count c bs) (parted c p bs)
 
 -- the last byte, and 0 where there is none
 abbrev pub last_byte : List ℕ → ℕ

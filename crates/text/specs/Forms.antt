@@ -1,11 +1,9 @@
 -- The forms of fields.
 use Rattle.std.specs.Prelude.{ℕ, Bool, true, false, not, ◌&&◌, ◌||◌, List, [], ◌∷◌, length, ◌==◌, nat_le}
 use Rattle.std.specs.Str.{bytes_eq}
-use Rattle.tasks.specs.Bytes.{every, digit, is_name}
+use Rattle.tasks.specs.Bytes.{every, digit}
 use Rattle.tasks.specs.Spelled.{technique_word}
 use Rattle.tasks.specs.declared.technique.Technique.TheVariants.{Fr, Sre, Sdr, Dre, Ddr}
-use Rattle.text.specs.declared.token.Form.{Form}
-use Rattle.text.specs.declared.token.Form.TheVariants as form
 
 -- 0 or 1
 abbrev pub binary : ℕ → Bool
@@ -49,10 +47,3 @@ is_technique bs =
     || (bytes_eq bs (technique_word Sdr)
     || (bytes_eq bs (technique_word Dre)
     || bytes_eq bs (technique_word Ddr))))
-
--- the bytes of a field have its form
-abbrev pub has_form : Form → List ℕ → Bool
-has_form form.Name bs = is_name bs
-has_form form.Technique bs = is_technique bs
-has_form form.Number bs = is_number bs
-has_form form.Pattern bs = is_pattern bs

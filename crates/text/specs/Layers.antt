@@ -1,19 +1,15 @@
 -- What the layers of the reader answer: field, line, table.
-use Rattle.std.specs.Prelude.{◌≡◌, ℕ, ◌+◌, ◌^◌, ◌<◌, ◌≤◌, Bool, true, false, ◌||◌, List, [], ◌∷◌, length, Some, None, Result, MatchResult}
+use Rattle.std.specs.Prelude.{◌≡◌, ℕ, ◌+◌, ◌^◌, ◌<◌, ◌≤◌, Bool, true, false, List, [], ◌∷◌, length, drop, Some, None, Result, MatchResult}
 use Rattle.words.specs.Bits.{ones}
 use Rattle.words.specs.Patterns.{Window}
 use Rattle.tasks.specs.Named.{name_bytes}
 use Rattle.tasks.specs.declared.line.Times.{Times}
 use Rattle.tasks.specs.declared.refusal.Refusal.{Refusal}
-use Rattle.text.specs.declared.token.Form.{Form}
-use Rattle.text.specs.declared.token.Form.TheVariants as form
-use Rattle.text.specs.declared.token.Part.{Part}
-use Rattle.text.specs.declared.token.Token.{Token}
-use Rattle.text.specs.declared.token.Token.TheVariants as token
+use Rattle.text.specs.declared.part.Part.{Part}
 use Rattle.text.specs.declared.line.Fields.{Fields}
 use Rattle.text.specs.declared.line.Head.{Head}
-use Rattle.text.specs.Cuts.{Placed, placed, parted, ended, count}
-use Rattle.text.specs.Forms.{is_r, is_e, is_bits}
+use Rattle.text.specs.declared.lines.Lines.{Lines}
+use Rattle.text.specs.Cuts.{Placed, placed, parted, ended, closed, count}
 use Rattle.text.specs.Rules.{Rule, first_broken, num}
 use Rattle.text.specs.Values.{technique_of, field_word}
 
@@ -33,40 +29,6 @@ Held r b e P = MatchResult r (λ x. (b ≡ true) × P x) (λ y. (b ≡ false) ×
 abbrev pub Says : {X : Type 0} → Result X Refusal → List Rule → (X → Type 0) → Type 0
 Says r rs P = MatchResult r (λ x. (first_broken rs ≡ None) × P x) (λ e. first_broken rs ≡ Some e)
 
--- the bytes that a token is, with their place
-abbrev pub token_part : Token → Placed
-token_part (token.Name p) = part_of p
-token_part (token.Word p) = part_of p
-token_part (token.Number p) = part_of p
-token_part (token.Bits p) = part_of p
-
--- the token of a pattern: a letter, or bits
-abbrev pub IsPattern : Token → Type 0
-IsPattern (token.Name p) = ⊥
-IsPattern (token.Word p) = (is_r p.bytes.now || is_e p.bytes.now) ≡ true
-IsPattern (token.Number p) = ⊥
-IsPattern (token.Bits p) = (is_bits p.bytes.now ≡ true) × (is_r p.bytes.now ≡ false) × (is_e p.bytes.now ≡ false)
-
--- the kind of token that a form has
-abbrev pub IsKind : Form → Token → Type 0
-IsKind form.Name (token.Name p) = Unit {0}
-IsKind form.Name (token.Word p) = ⊥
-IsKind form.Name (token.Number p) = ⊥
-IsKind form.Name (token.Bits p) = ⊥
-IsKind form.Technique (token.Name p) = ⊥
-IsKind form.Technique (token.Word p) = Unit {0}
-IsKind form.Technique (token.Number p) = ⊥
-IsKind form.Technique (token.Bits p) = ⊥
-IsKind form.Number (token.Name p) = ⊥
-IsKind form.Number (token.Word p) = ⊥
-IsKind form.Number (token.Number p) = Unit {0}
-IsKind form.Number (token.Bits p) = ⊥
-IsKind form.Pattern t = IsPattern t
-
--- the token is the bytes s, of the kind that the form has
-abbrev pub IsToken : Form → Placed → Token → Type 0
-IsToken f s t = (token_part t ≡ s) × IsKind f t
-
 -- first is what stands before the first mark, rest what follows it
 pub record Cut (mark : ℕ) (whole first rest : Placed) : Type 0 where
   pub fields : 1 ≤ count mark whole.bytes → parted mark whole.place whole.bytes ≡ first ∷ parted mark rest.place rest.bytes
@@ -75,6 +37,10 @@ pub record Cut (mark : ℕ) (whole first rest : Placed) : Type 0 where
   pub shorter : 1 ≤ length whole.bytes → length rest.bytes < length whole.bytes
   pub within : rest.place + length rest.bytes ≤ whole.place + length whole.bytes
   pub before : first.place + length first.bytes ≤ whole.place + length whole.bytes
+
+-- the lines that are left
+abbrev pub lines_left : Lines → List Placed
+lines_left l = closed 10 l.start (drop l.start l.text.now)
 
 -- the fields of a line, in order
 abbrev pub nine : Fields → List Placed

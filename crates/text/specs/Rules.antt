@@ -1,13 +1,12 @@
 -- The rules of a table text, in the order in which they are tested, and the first that is broken.
 use Rattle.std.specs.Prelude.{ℕ, ◌+◌, ◌-◌, Bool, false, cond, not, ◌||◌, List, [], ◌∷◌, ◌++◌, map, length, Some, None, Option, ◌==◌, nat_le, nat_lt, slice_index, slice_index_or}
 use Rattle.std.specs.Str.{bytes_eq}
+use Rattle.tasks.specs.Bytes.{is_name}
 use Rattle.tasks.specs.Rows.{Row}
 use Rattle.tasks.specs.declared.refusal.Refusal.{Refusal}
 use Rattle.tasks.specs.declared.refusal.Refusal.TheVariants as refusal
-use Rattle.text.specs.declared.token.Form.{Form}
-use Rattle.text.specs.declared.token.Form.TheVariants.{Name, Technique, Number, Pattern}
 use Rattle.text.specs.Cuts.{Placed, placed, last_byte}
-use Rattle.text.specs.Forms.{has_form}
+use Rattle.text.specs.Forms.{is_technique, is_number, is_pattern}
 use Rattle.text.specs.Values.{number_of, fits}
 
 -- whether a rule is kept, and the refusal where it is broken
@@ -24,8 +23,8 @@ first_broken [] = None
 first_broken (r ∷ rs) = cond r.kept (first_broken rs) (Some r.otherwise)
 
 -- the field has its form: 3 at the field of line n
-abbrev pub form : ℕ → Form → Placed → Rule
-form n f s = rule (has_form f s.bytes) (refusal.Form n s.place)
+abbrev pub form : ℕ → (List ℕ → Bool) → Placed → Rule
+form n has_form s = rule (has_form s.bytes) (refusal.Form n s.place)
 
 -- a value keeps a rule of a line: 4 at the field of line n; a rule that ties two fields stands at the later
 abbrev pub value : ℕ → Bool → Placed → Rule
@@ -94,25 +93,25 @@ count_rules n l fs =
 -- then the fields from the left, in each 3 before 4: name, technique, 1 ≤ m ≤ k ≤ 64, pattern
 abbrev pub head_rules : ℕ → List Placed → List Rule
 head_rules n fs =
-    form n Name (the_name fs)
-    ∷ form n Technique (the_technique fs)
-    ∷ form n Number (the_m fs)
-    ∷ form n Number (the_k fs)
+    form n is_name (the_name fs)
+    ∷ form n is_technique (the_technique fs)
+    ∷ form n is_number (the_m fs)
+    ∷ form n is_number (the_k fs)
     ∷ value n (nat_le (num (the_m fs)) (num (the_k fs))) (the_k fs)
     ∷ value n (nat_le (num (the_k fs)) 64) (the_k fs)
-    ∷ form n Pattern (the_pattern fs)
+    ∷ form n is_pattern (the_pattern fs)
     ∷ value n (fits (num (the_m fs)) (num (the_k fs)) (the_pattern fs).bytes) (the_pattern fs)
     ∷ []
 
 -- the times and the period, 1 ≤ u < d < r ≤ T ≤ 1,000,000; that m and u are at least 1 is part of their form
 abbrev pub time_rules : ℕ → List Placed → List Rule
 time_rules n fs =
-    form n Number (the_bare fs)
-    ∷ form n Number (the_detect fs)
+    form n is_number (the_bare fs)
+    ∷ form n is_number (the_detect fs)
     ∷ value n (nat_lt (num (the_bare fs)) (num (the_detect fs))) (the_detect fs)
-    ∷ form n Number (the_correct fs)
+    ∷ form n is_number (the_correct fs)
     ∷ value n (nat_lt (num (the_detect fs)) (num (the_correct fs))) (the_correct fs)
-    ∷ form n Number (the_period fs)
+    ∷ form n is_number (the_period fs)
     ∷ value n (nat_le (num (the_correct fs)) (num (the_period fs))) (the_period fs)
     ∷ value n (nat_le (num (the_period fs)) 1000000) (the_period fs)
     ∷ []

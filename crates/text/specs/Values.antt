@@ -1,13 +1,17 @@
 -- What fields stand for.
-use Rattle.std.specs.Prelude.{ℕ, ◌+◌, ◌-◌, ◌*◌, Bool, cond, ◌&&◌, ◌||◌, List, [], ◌∷◌, length, ◌==◌}
+use Rattle.std.specs.Prelude.{◌≡◌, ℕ, ◌+◌, ◌-◌, ◌*◌, ◌≤◌, Bool, cond, ◌&&◌, ◌||◌, true, false, List, [], ◌∷◌, length, ◌==◌}
 use Rattle.std.specs.Str.{bytes_eq}
 use Rattle.words.specs.Patterns.{pattern_word}
+use Rattle.words.specs.declared.patterns.Pattern.{Pattern}
 use Rattle.words.specs.declared.patterns.Pattern.TheVariants as pattern
+use Rattle.tasks.specs.Bytes.{every}
 use Rattle.tasks.specs.Spelled.{technique_word}
 use Rattle.tasks.specs.declared.technique.Technique.{Technique}
 use Rattle.tasks.specs.declared.technique.Technique.TheVariants.{Fr, Sre, Sdr, Dre, Ddr}
 use Rattle.text.specs.Cuts.{count}
-use Rattle.text.specs.Forms.{is_r, is_e}
+use Rattle.text.specs.Forms.{binary, is_r, is_e}
+use Rattle.text.specs.declared.value.PatternValue.{PatternValue}
+use Rattle.text.specs.declared.value.PatternValue.TheVariants.{Ready, Bits}
 
 -- the technique that a word names
 abbrev pub technique_of : List ℕ → Technique
@@ -38,3 +42,13 @@ fits m k bs = is_r bs || (is_e bs || (length bs == k && count 49 bs == m))
 -- the word that a pattern field stands for, with m ones of k bits
 abbrev pub field_word : ℕ → ℕ → List ℕ → ℕ
 field_word m k bs = cond (is_r bs) (pattern_word pattern.R m k) (cond (is_e bs) (pattern_word pattern.E m k) (bits_of bs))
+
+-- the field writes a ready-made pattern
+abbrev pub SaysReady : List ℕ → Pattern → Type 0
+SaysReady bs pattern.R = is_r bs ≡ true
+SaysReady bs pattern.E = (is_r bs ≡ false) × (is_e bs ≡ true)
+
+-- the field writes a ready-made pattern, or the bits of a word
+abbrev pub SaysPattern : List ℕ → PatternValue → Type 0
+SaysPattern bs (Ready p) = SaysReady bs p
+SaysPattern bs (Bits count word) = (is_r bs ≡ false) × (is_e bs ≡ false) × (every binary bs ≡ true) × (count ≡ length bs) × (count ≤ 64) × (word ≡ bits_of bs)

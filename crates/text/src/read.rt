@@ -6,8 +6,9 @@ ghost use Rattle.text.specs.Reading.{with_line, with_lines, reading, Reads};
 ghost use Rattle.text.specs.Law.{Accepts};
 ghost use Rattle.text.specs.Layers.{part_of, Within};
 
-use crate::line::{cut, line, split_fields};
-use crate::token::Part;
+use crate::line::split_fields;
+use crate::lines::Lines;
+use crate::part::Part;
 use tasks::refusal::Refusal;
 use tasks::table::Table;
 use tasks::tables::Unfit;
@@ -27,54 +28,40 @@ fn add<'a>(table: &mut Table, text: Part<'a>) -> Result<(), Refusal>
     if count >= MOST {
         return Err(Refusal::TooManyLines { place: text.place });
     }
-    let number = count as u32 + 1;
-    let f = split_fields(text, number)?;
-    let read = line(f, number)?;
-    let name = f.name;
-    let period = f.period;
+    let fields = split_fields(text, count as u32 + 1)?;
+    let read = fields.line()?;
     match table.push(read) {
         Ok(()) => Ok(()),
-        Err(Unfit::Full) => unreachable(),
+        Err(Unfit::Full) => Err(Refusal::TooManyLines { place: text.place }),
         Err(Unfit::NameUsed) => Err(Refusal::NameUsed {
-            line: number,
-            place: name.place,
+            line: fields.number,
+            place: fields.name.place,
         }),
         Err(Unfit::PeriodFalls) => Err(Refusal::PeriodFalls {
-            line: number,
-            place: period.place,
+            line: fields.number,
+            place: fields.period.place,
         }),
     }
 }
 
 // Fills a table with the lines of a text, whatever it held before.
 fn fill(table: &mut Table, text: &[u8]) -> Result<(), Refusal>
-    requires { length text.now ≤ 8192 }
+    requires small { length text.now ≤ 8192 }
+    requires fed { last_byte text.now ≡ 10 }
     ensures { MatchResult result (λ _. with_lines [] (lines_in text.now) ≡ Ok (rows_of table.new)) (λ e. with_lines [] (lines_in text.now) ≡ Err e) }
 {
     *table = Table::new();
-    let mut rest = Part {
-        bytes: text,
-        place: 0,
-    };
-    while !rest.bytes.is_empty() {
-        let (line, after) = cut(rest, b'\n');
+    for line in Lines::new(text) {
         add(table, line)?;
-        rest = after;
     }
     Ok(())
-}
-
-fn ends_in_feed(text: &[u8]) -> bool
-    ensures { result ≡ (last_byte text.now == 10) }
-{
-    matches!(text, [.., b'\n'])
 }
 
 // At most LONGEST bytes, the last a line feed.
 fn is_text(text: &[u8]) -> bool
     ensures { result ≡ (nat_le (length text.now) 8192 && last_byte text.now == 10) }
 {
-    text.len() <= LONGEST && ends_in_feed(text)
+    text.len() <= LONGEST && matches!(text, [.., b'\n'])
 }
 
 // The rules of the text first, then the lines.

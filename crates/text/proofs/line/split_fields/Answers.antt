@@ -2,17 +2,19 @@ use Rattle.std.proofs.Common.{◌≡◌, length, refl, arith}
 use Rattle.std.proofs.lemmas.Bool.{eq-eqb, ne_eqb}
 use Rattle.text.specs.Cuts.{count, fields_in}
 use Rattle.text.specs.Layers.{part_of}
-use Rattle.text.proofs.Cutting.{no_mark, length_parted, chain}
+use Rattle.text.proofs.Cutting.{count_is, no_mark, length_parted, chain}
 use Rattle.text.proofs.line.split_fields.Goals as goal
 
 pub returns-then-marks-ne8 : goal.returns-then-marks-ne8
 returns-then-marks-ne8 c =
-    λ _. (ne_eqb (length (fields_in (part_of c.args.text))) 9 (λ e. c.if-marks-ne8.true (omega (arith, e, length_parted 44 c.args.text.place c.args.text.bytes.now, c.marks.ensures))), refl)
+    let bs = c.args.text.bytes.now in
+    λ _. (ne_eqb (length (fields_in (part_of c.args.text))) 9 (λ e. c.if-marks-ne8.true (omega (arith, e, length_parted 44 c.args.text.place bs, c.marks.ensures, count_is 44 bs))), refl)
 
 pub returns : goal.returns
 returns c =
     λ h.
-    let eight : count 44 c.args.text.bytes.now ≡ 8 = omega (arith, c.marks.ensures, c.if-marks-ne8.false) in
+    let bs = c.args.text.bytes.now in
+    let eight : count 44 bs ≡ 8 = omega (arith, c.marks.ensures, count_is 44 bs, c.if-marks-ne8.false) in
     let k1 = c.cut.ensures h in
     let n1 : count 44 c.cut.result.1.bytes.now ≡ 7 = omega (arith, k1.left (omega arith)) in
     let k2 = c.cut-2.ensures (omega (arith, k1.within)) in
@@ -30,6 +32,6 @@ returns c =
     let k8 = c.cut-8.ensures (omega (arith, k1.within, k2.within, k3.within, k4.within, k5.within, k6.within, k7.within)) in
     let n8 : count 44 c.cut-8.result.1.bytes.now ≡ 0 = omega (arith, k8.left (omega arith)) in
     let last = (no_mark 44 c.cut-8.result.1.place c.cut-8.result.1.bytes.now n8).0 in (
-      eq-eqb (length (fields_in (part_of c.args.text))) 9 (omega (arith, length_parted 44 c.args.text.place c.args.text.bytes.now)),
-      chain (k1.fields (omega arith)) (chain (k2.fields (omega arith)) (chain (k3.fields (omega arith)) (chain (k4.fields (omega arith)) (chain (k5.fields (omega arith)) (chain (k6.fields (omega arith)) (chain (k7.fields (omega arith)) (chain (k8.fields (omega arith)) last))))))),
+      eq-eqb (length (fields_in (part_of c.args.text))) 9 (omega (arith, length_parted 44 c.args.text.place bs)),
+      (chain (k1.fields (omega arith)) (chain (k2.fields (omega arith)) (chain (k3.fields (omega arith)) (chain (k4.fields (omega arith)) (chain (k5.fields (omega arith)) (chain (k6.fields (omega arith)) (chain (k7.fields (omega arith)) (chain (k8.fields (omega arith)) last))))))), refl),
     )

@@ -1,6 +1,0 @@
-use Rattle.std.proofs.Common.{◌≡◌, drop}
-use Rattle.text.specs.Values.{number_after, number_of}
-use Rattle.text.proofs.field.number.Given as goal
-
-abbrev pub invariant-loop-digit : goal.invariant-loop-digit
-invariant-loop-digit l = number_after l.value (drop l.digit-index l.digits) ≡ number_of l.digits
