@@ -1,5 +1,5 @@
 // The answer to a table text, as a value: what the program prints.
-ghost use Rattle.std.specs.Prelude.{◌≡◌, ◌++◌, IfOk, OnOk};
+ghost use Rattle.std.specs.Prelude.{◌≡◌, ◌++◌, IfOk, OnOk, Some};
 ghost use Rattle.tasks.specs.Lines.{names};
 ghost use Rattle.tasks.specs.Named.{name_bytes};
 ghost use Rattle.tasks.specs.Tables.{lines_of};
@@ -8,6 +8,7 @@ ghost use Rattle.report.specs.Answer.{figure_line, figure_lines, verdict_line, r
 use policies::by_line::ByLine;
 use response::figures::figures;
 use std::alloc::{AllocError, Global};
+use std::fmt;
 use tasks::name::Name;
 use tasks::refusal::Refusal;
 use tasks::table::Table;
@@ -15,7 +16,6 @@ use text::read::read;
 
 // Adds the number, name and figure of a line, parted by commas.
 fn add_figure_line(
-    heap: Global,
     out: &mut Vec<u8>,
     number: usize,
     name: &Name,
@@ -23,6 +23,7 @@ fn add_figure_line(
 ) -> Result<(), AllocError>
     ensures { OnOk result (out.new.items ≡ out.old.items ++ figure_line number (name_bytes name.now) figure) }
 {
+    let heap = *out.allocator();
     let head = format!(in heap; "{number},")?;
     let tail = format!(in heap; ",{figure}\n")?;
     out.extend_from_slice(head.as_bytes())?;
@@ -35,34 +36,40 @@ fn figure_lines(heap: Global, table: &Table, figures: &[u32; 32]) -> Result<Vec<
     ensures { IfOk result (λ v. v.items ≡ figure_lines 1 (names (lines_of table.now)) figures.now) }
 {
     let mut out = Vec::new(heap);
-    for (i, line) in table.lines().iter().enumerate() {
-        add_figure_line(heap, &mut out, i + 1, &line.name, figures[i])?;
+    for (i, (line, figure)) in table.lines().iter().zip(figures).enumerate() {
+        add_figure_line(&mut out, i + 1, &line.name, *figure)?;
     }
     Ok(out)
 }
 
-fn with_verdict(mut out: Vec<u8>, admitted: bool) -> Result<Vec<u8>, AllocError>
-    ensures { IfOk result (λ v. v.items ≡ out.items ++ verdict_line admitted) }
+// The line of a verdict.
+pub fn verdict_line(admitted: bool) -> &'static str
+    ensures { result.now ≡ verdict_line admitted }
 {
-    out.extend_from_slice(if admitted {
-        b"admitted\n"
-    } else {
-        b"rejected\n"
-    })?;
-    Ok(out)
+    if admitted { "admitted\n" } else { "rejected\n" }
+}
+
+// The line of a refusal: its number, line and place.
+#[derive(Clone, Copy)]
+pub struct RefusalLine(pub Refusal);
+
+impl fmt::Display for RefusalLine {
+    ghost output = { λ l. Some (refusal_line l.0) };
+
+    fn fmt<W: fmt::Write>(&self, f: &mut fmt::Formatter<W>) -> fmt::Result {
+        let number = self.0.number();
+        let line = self.0.line();
+        let place = self.0.place();
+        write!(f, "refused,{number},{line},{place}\n")
+    }
 }
 
 // The line of a refusal. Want of memory is the only error.
 pub fn refused(heap: Global, refusal: Refusal) -> Result<Vec<u8>, AllocError>
     ensures { IfOk result (λ v. v.items ≡ refusal_line refusal) }
 {
-    let number = refusal.number();
-    let line = refusal.line();
-    let place = refusal.place();
-    let text = format!(in heap; "refused,{number},{line},{place}\n")?;
-    let mut out = Vec::new(heap);
-    out.extend_from_slice(text.as_bytes())?;
-    Ok(out)
+    let line = RefusalLine(refusal).to_string(heap)?;
+    Ok(line.into_bytes())
 }
 
 // The whole answer to a text: number, name and figure of each line under the by-line policy and then the verdict,
@@ -76,7 +83,11 @@ pub fn report(heap: Global, text: &[u8]) -> Result<Vec<u8>, AllocError>
         return refused(heap, refusal);
     }
     match figures(&ByLine {}, &table, &mut places) {
-        Ok(admitted) => with_verdict(figure_lines(heap, &table, &places)?, admitted),
+        Ok(admitted) => {
+            let mut out = figure_lines(heap, &table, &places)?;
+            out.extend_from_slice(verdict_line(admitted).as_bytes())?;
+            Ok(out)
+        }
         Err(refusal) => refused(heap, refusal),
     }
 }
