@@ -13,6 +13,7 @@ use Rattle.tasks.specs.declared.technique.Technique.TheVariants.{Fr, Sre, Sdr, D
 use Rattle.tasks.specs.declared.job.Plan.{Plan}
 use Rattle.tasks.specs.declared.job.Plan.TheVariants.{Bare, Detect, Correct, Recover}
 use Rattle.tasks.specs.declared.job.Ending.{Ending}
+use Rattle.policies.specs.declared.pattern.BitPlans.{BitPlans}
 use Rattle.policies.specs.Endings.{Allows, bare_blind, detect_clean, detect_bad, correct_sure, recover_clean, recover_sure, right, cost, worst}
 use Rattle.policies.specs.Runs.{Run, mark_after, costs, rights}
 use Rattle.policies.specs.Promises.{most_per_job, Keeps}
@@ -53,19 +54,19 @@ fr_keeps l = record {
 -- ---- the techniques that go by bits
 
 -- the plans of a zero and a one
-data Plans : Plan → Plan → Type 0 where
-  sre : Plans Bare Correct
-  sdr : Plans Bare Recover
-  dre : Plans Detect Correct
-  ddr : Plans Detect Recover
+data Plans : BitPlans → Type 0 where
+  sre : Plans (record { on_zero = Bare; on_one = Correct })
+  sdr : Plans (record { on_zero = Bare; on_one = Recover })
+  dre : Plans (record { on_zero = Detect; on_one = Correct })
+  ddr : Plans (record { on_zero = Detect; on_one = Recover })
 
 -- what one allowed ending does: the mark stays, the job is right and costs no more than a zero; or the mark
 -- goes on, the job is right if the bit is 1 and costs no more than the bit
-data Step (l : Line) (z o : Plan) (b : ℕ) (e : Ending) : Type 0 where
-  stays : moves (plan_of_bit z o b) e ≡ false → 1 ≤ right e → cost l (plan_of_bit z o b) e ≤ worst l z → Step l z o b e
-  goes : moves (plan_of_bit z o b) e ≡ true → b ≤ right e → cost l (plan_of_bit z o b) e ≤ cost_of_bit (worst l z) (worst l o) b → Step l z o b e
+data Step (l : Line) (p : BitPlans) (b : ℕ) (e : Ending) : Type 0 where
+  stays : moves (plan_of_bit p b) e ≡ false → 1 ≤ right e → cost l (plan_of_bit p b) e ≤ worst l p.on_zero → Step l p b e
+  goes : moves (plan_of_bit p b) e ≡ true → b ≤ right e → cost l (plan_of_bit p b) e ≤ cost_of_bit (worst l p.on_zero) (worst l p.on_one) b → Step l p b e
 
-step : (l : Line) {z o : Plan} → Plans z o → (b : ℕ) {e : Ending} → b ≤ 1 → Allows (plan_of_bit z o b) e → Step l z o b e
+step : (l : Line) {p : BitPlans} → Plans p → (b : ℕ) {e : Ending} → b ≤ 1 → Allows (plan_of_bit p b) e → Step l p b e
 step l sre zero h bare_blind = goes refl (omega arith) (omega arith)
 step l sre (suc b) h correct_sure = goes refl (omega arith) (omega arith)
 step l sdr zero h bare_blind = goes refl (omega arith) (omega arith)
@@ -80,19 +81,19 @@ step l ddr (suc b) h recover_clean = goes refl (omega arith) (omega arith)
 step l ddr (suc b) h recover_sure = goes refl (omega arith) (omega arith)
 
 -- a zero costs least
-least : (l : Line) {z o : Plan} → Plans z o → (b : ℕ) → worst l z ≤ cost_of_bit (worst l z) (worst l o) b
+least : (l : Line) {p : BitPlans} → Plans p → (b : ℕ) → worst l p.on_zero ≤ cost_of_bit (worst l p.on_zero) (worst l p.on_one) b
 least l plans zero = omega arith
 least l sre (suc b) = omega (arith, l.ordered)
 least l sdr (suc b) = omega (arith, l.ordered)
 least l dre (suc b) = omega (arith, l.ordered)
 least l ddr (suc b) = omega (arith, l.ordered)
 
-module _ (l : Line) {z o : Plan} (plans : Plans z o) (s : ℕ) where
+module _ (l : Line) {p : BitPlans} (plans : Plans p) (s : ℕ) where
   b : ℕ → ℕ
   b = turned_bit l.word l.k s
 
   c : ℕ → ℕ
-  c x = cost_of_bit (worst l z) (worst l o) (turned_bit l.word l.k s x)
+  c x = cost_of_bit (worst l p.on_zero) (worst l p.on_one) (turned_bit l.word l.k s x)
 
   small : (x : ℕ) → turned_bit l.word l.k s x ≤ 1
   small x = omega arith
@@ -100,10 +101,10 @@ module _ (l : Line) {z o : Plan} (plans : Plans z o) (s : ℕ) where
   some : 0 < l.k
   some = omega (arith, l.window)
 
-  unmoved : (q : ℕ) (e : Ending) → moves (pattern_plan z o s l q) e ≡ false → pattern_next z o s l q e ≡ q
+  unmoved : (q : ℕ) (e : Ending) → moves (pattern_plan p s l q) e ≡ false → pattern_next p s l q e ≡ q
   unmoved q e h = ap (λ t. cond t ((q + 1) % l.k) q) h
 
-  moved : (q : ℕ) (e : Ending) → moves (pattern_plan z o s l q) e ≡ true → pattern_next z o s l q e ≡ (q + 1) % l.k
+  moved : (q : ℕ) (e : Ending) → moves (pattern_plan p s l q) e ≡ true → pattern_next p s l q e ≡ (q + 1) % l.k
   moved q e h = ap (λ t. cond t ((q + 1) % l.k) q) h
 
   -- the row from the mark after a move is the row from the next place
@@ -111,41 +112,41 @@ module _ (l : Line) {z o : Plan} (plans : Plans z o) (s : ℕ) where
   on f q n = row_mod f l.k (q + 1) n ∙ ap (λ i. row f l.k i n) (omega arith)
 
   -- a run has at least as many right endings as the bits in a row from its mark have ones
-  rights_row : (q : ℕ) (es : List Ending) → Run (pattern_plan z o s l) (pattern_next z o s l) q es → row b l.k q (length es) ≤ rights es
+  rights_row : (q : ℕ) (es : List Ending) → Run (pattern_plan p s l) (pattern_next p s l) q es → row b l.k q (length es) ≤ rights es
   unfolding b c
   rights_row q [] r = omega (arith, row_none b l.k q)
   rights_row q (e ∷ es) r =
       let n = length es in
-      let rest = rights_row (pattern_next z o s l q e) es r.1 in
+      let rest = rights_row (pattern_next p s l q e) es r.1 in
       elim (step l plans (turned_bit l.word l.k s (q % l.k)) (small (q % l.k)) r.0) [
         | stays m right cost ↦ omega (arith, rest, ap (λ i. row b l.k i n) (unmoved q e m), row_last b l.k q n, small ((q + n) % l.k), right)
         | goes m right cost ↦ omega (arith, rest, ap (λ i. row b l.k i n) (moved q e m), on b q n, row_first b l.k q n, right)
       ]
 
   -- it costs no more than the bits in a row
-  costs_row : (q : ℕ) (es : List Ending) → Run (pattern_plan z o s l) (pattern_next z o s l) q es → costs (pattern_plan z o s l) (pattern_next z o s l) l q es ≤ row c l.k q (length es)
+  costs_row : (q : ℕ) (es : List Ending) → Run (pattern_plan p s l) (pattern_next p s l) q es → costs (pattern_plan p s l) (pattern_next p s l) l q es ≤ row c l.k q (length es)
   unfolding c
   costs_row q [] r = omega (arith, row_none c l.k q)
   costs_row q (e ∷ es) r =
       let n = length es in
-      let rest = costs_row (pattern_next z o s l q e) es r.1 in
+      let rest = costs_row (pattern_next p s l q e) es r.1 in
       elim (step l plans (turned_bit l.word l.k s (q % l.k)) (small (q % l.k)) r.0) [
         | stays m right cost ↦ omega (arith, rest, ap (λ i. row c l.k i n) (unmoved q e m), row_last c l.k q n, least l plans (turned_bit l.word l.k s ((q + n) % l.k)), cost)
         | goes m right cost ↦ omega (arith, rest, ap (λ i. row c l.k i n) (moved q e m), on c q n, row_first c l.k q n, cost)
       ]
 
-  pattern_keeps : Keeps l (pattern_plan z o s l) (pattern_next z o s l) (pattern_demand z o l)
+  pattern_keeps : Keeps l (pattern_plan p s l) (pattern_next p s l) (pattern_demand p l)
   unfolding b c
   pattern_keeps = record {
     reliable = λ before window r n.
-        let q = mark_after (pattern_plan z o s l) (pattern_next z o s l) 0 before in
-        omega (arith, rights_row q window (run_rest (pattern_plan z o s l) (pattern_next z o s l) 0 before window r), ap (row b l.k q) n, row_turned (bit l.word) l.k s q l.k, row_round (bit l.word) l.k (q + s), l.reliable);
+        let q = mark_after (pattern_plan p s l) (pattern_next p s l) 0 before in
+        omega (arith, rights_row q window (run_rest (pattern_plan p s l) (pattern_next p s l) 0 before window r), ap (row b l.k q) n, row_turned (bit l.word) l.k s q l.k, row_round (bit l.word) l.k (q + s), l.reliable);
     bounded = λ before jobs r n.
-        let q = mark_after (pattern_plan z o s l) (pattern_next z o s l) 0 before in
-        omega (arith, costs_row q jobs (run_rest (pattern_plan z o s l) (pattern_next z o s l) 0 before jobs r), row_turned (bit_cost z o l) l.k s q (length jobs), row_greatest (bit_cost z o l) l.k some (q + s) (length jobs));
-    none = greatest_row_none (bit_cost z o l) l.k;
-    rising = λ x y h n. greatest_row_rises (bit_cost z o l) l.k some x y h;
-    capped = λ n h. omega (arith, greatest_row_bound (bit_cost z o l) l.k most_per_job (λ x. cost_small (worst l z) (worst l o) l.word x (worst_small l z) (worst_small l o)) n);
+        let q = mark_after (pattern_plan p s l) (pattern_next p s l) 0 before in
+        omega (arith, costs_row q jobs (run_rest (pattern_plan p s l) (pattern_next p s l) 0 before jobs r), row_turned (bit_cost p l) l.k s q (length jobs), row_greatest (bit_cost p l) l.k some (q + s) (length jobs));
+    none = greatest_row_none (bit_cost p l) l.k;
+    rising = λ x y h n. greatest_row_rises (bit_cost p l) l.k some x y h;
+    capped = λ n h. omega (arith, greatest_row_bound (bit_cost p l) l.k most_per_job (λ x. cost_small (worst l p.on_zero) (worst l p.on_one) l.word x (worst_small l p.on_zero) (worst_small l p.on_one)) n);
   }
 
 -- ---- all five

@@ -8,6 +8,7 @@ use Rattle.tasks.specs.declared.job.Plan.{Plan}
 use Rattle.tasks.specs.declared.job.Plan.TheVariants.{Bare, Detect, Correct, Recover}
 use Rattle.tasks.specs.declared.job.Ending.{Ending}
 use Rattle.tasks.specs.declared.job.Ending.TheVariants.{Blind, Clean, Bad, Sure}
+use Rattle.policies.specs.declared.pattern.BitPlans.{BitPlans}
 use Rattle.policies.specs.Endings.{worst}
 
 -- the mark goes on after every ending that the plan allows, but for a clean one under Detect
@@ -29,18 +30,18 @@ moves Recover Clean = true
 moves Recover Bad = false
 moves Recover Sure = true
 
--- the plan of a bit, given those of a 0 and of a 1
-abbrev pub plan_of_bit : Plan → Plan → ℕ → Plan
-plan_of_bit on_zero on_one zero = on_zero
-plan_of_bit on_zero on_one (suc b) = on_one
+-- the plan of a bit, by the plans of a 0 and of a 1
+abbrev pub plan_of_bit : BitPlans → ℕ → Plan
+plan_of_bit p zero = p.on_zero
+plan_of_bit p (suc b) = p.on_one
 
 -- the plan at a mark: that of the bit at the mark modulo k of the word turned left by some places
-abbrev pub pattern_plan : Plan → Plan → ℕ → Line → ℕ → Plan
-pattern_plan on_zero on_one turn l mark = plan_of_bit on_zero on_one (turned_bit l.word l.k turn (mark % l.k))
+abbrev pub pattern_plan : BitPlans → ℕ → Line → ℕ → Plan
+pattern_plan p turn l mark = plan_of_bit p (turned_bit l.word l.k turn (mark % l.k))
 
 -- the mark after an ending
-abbrev pub pattern_next : Plan → Plan → ℕ → Line → ℕ → Ending → ℕ
-pattern_next on_zero on_one turn l mark e = cond (moves (pattern_plan on_zero on_one turn l mark) e) ((mark + 1) % l.k) mark
+abbrev pub pattern_next : BitPlans → ℕ → Line → ℕ → Ending → ℕ
+pattern_next p turn l mark e = cond (moves (pattern_plan p turn l mark) e) ((mark + 1) % l.k) mark
 
 -- what the bit at a place of a word costs, given what a 0 and a 1 cost
 abbrev pub cost_of_bit : ℕ → ℕ → ℕ → ℕ
@@ -51,9 +52,9 @@ abbrev pub cost_at : ℕ → ℕ → ℕ → ℕ → ℕ
 cost_at zero_cost one_cost w place = cost_of_bit zero_cost one_cost (bit w place)
 
 -- what the bit at a place of a line's word costs: the most that a job of the bit's plan costs
-abbrev pub bit_cost : Plan → Plan → Line → ℕ → ℕ
-bit_cost on_zero on_one l place = cost_at (worst l on_zero) (worst l on_one) l.word place
+abbrev pub bit_cost : BitPlans → Line → ℕ → ℕ
+bit_cost p l place = cost_at (worst l p.on_zero) (worst l p.on_one) l.word place
 
 -- the demand of n jobs: the greatest sum of n consecutive bits' costs, going round the word
-abbrev pub pattern_demand : Plan → Plan → Line → ℕ → ℕ
-pattern_demand on_zero on_one l n = greatest_row (bit_cost on_zero on_one l) l.k n
+abbrev pub pattern_demand : BitPlans → Line → ℕ → ℕ
+pattern_demand p l n = greatest_row (bit_cost p l) l.k n

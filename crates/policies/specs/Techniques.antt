@@ -45,10 +45,10 @@ technique_turn Ddr l = rearranging l
 
 -- FR corrects every job; the others go by the bits
 abbrev pub technique_plan : Technique → Line → ℕ → Plan
-technique_plan t l mark = option_map_or (λ (p : BitPlans). pattern_plan p.on_zero p.on_one (technique_turn t l) l mark) (technique_bits t) Correct
+technique_plan t l mark = option_map_or (λ p. pattern_plan p (technique_turn t l) l mark) (technique_bits t) Correct
 
 abbrev pub technique_next : Technique → Line → ℕ → Ending → ℕ
-technique_next t l mark e = option_map_or (λ (p : BitPlans). pattern_next p.on_zero p.on_one (technique_turn t l) l mark e) (technique_bits t) mark
+technique_next t l mark e = option_map_or (λ p. pattern_next p (technique_turn t l) l mark e) (technique_bits t) mark
 
 abbrev pub technique_demand : Technique → Line → ℕ → ℕ
-technique_demand t l n = option_map_or (λ (p : BitPlans). pattern_demand p.on_zero p.on_one l n) (technique_bits t) (n * worst l Correct)
+technique_demand t l n = option_map_or (λ p. pattern_demand p l n) (technique_bits t) (n * worst l Correct)

@@ -45,7 +45,8 @@ impl BitCosts {
         u64::from(line.m) * self.one + u64::from(line.k - line.m) * self.zero
     }
 
-    // The greatest sum of n consecutive bits' costs, going round a line's word, n less than k: the window slides.
+    // The greatest sum of n consecutive bits' costs, going round a line's word, n less than k: the window slides,
+    // and each start's sum is made of the one before, which a chain of an iterator could not tell.
     pub(crate) fn greatest_window(self, line: &Line, n: u32) -> u64
         requires { n < line.now.k }
         ensures is { result ≡ greatest_row (cost_at self.zero self.one line.now.word) line.now.k n }

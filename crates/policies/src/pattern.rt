@@ -49,7 +49,7 @@ pub struct BitPlans {
 impl BitPlans {
     // The plan of a bit.
     fn of_bit(self, bit: u64) -> Plan
-        ensures { result ≡ plan_of_bit self.on_zero self.on_one bit }
+        ensures { result ≡ plan_of_bit self bit }
     {
         if bit == 0 { self.on_zero } else { self.on_one }
     }
@@ -67,7 +67,7 @@ impl BitPlans {
 
     // The plan at a mark.
     pub fn plan_at(self, line: &Line, turn: u32, mark: u64) -> Plan
-        ensures { result ≡ pattern_plan self.on_zero self.on_one turn line.now mark }
+        ensures { result ≡ pattern_plan self turn line.now mark }
     {
         let k = u64::from(line.k);
         let place = (mark % k + u64::from(turn)) % k;
@@ -76,8 +76,8 @@ impl BitPlans {
 
     // The mark after an ending; one that the plan does not allow leaves the mark as it stands.
     pub fn next_mark(self, line: &Line, turn: u32, mark: u64, ending: Ending) -> u64
-        ensures is { result ≡ pattern_next self.on_zero self.on_one turn line.now mark ending }
-        ensures stays { (Allows (pattern_plan self.on_zero self.on_one turn line.now mark) ending → ⊥) → result ≡ mark }
+        ensures is { result ≡ pattern_next self turn line.now mark ending }
+        ensures stays { (Allows (pattern_plan self turn line.now mark) ending → ⊥) → result ≡ mark }
     {
         if goes_on(self.plan_at(line, turn, mark), ending) {
             let k = u64::from(line.k);
@@ -89,8 +89,8 @@ impl BitPlans {
 
     // The demand of a number of jobs: the greatest sum of as many consecutive bits' costs, going round.
     pub fn demand_of(self, line: &Line, jobs: u32) -> u64
-        ensures is { result ≡ pattern_demand self.on_zero self.on_one line.now jobs }
-        ensures greatest { GreatestRow (bit_cost self.on_zero self.on_one line.now) line.now.k jobs result }
+        ensures is { result ≡ pattern_demand self line.now jobs }
+        ensures greatest { GreatestRow (bit_cost self line.now) line.now.k jobs result }
     {
         let costs = self.costs(line);
         let rounds = u64::from(jobs / line.k);

@@ -8,7 +8,7 @@ pub returns-then-goes_on : goal.returns-then-goes_on
 returns-then-goes_on c =
     let q = c.args.mark in
     let l = c.args.line.now in
-    let p = pattern_plan c.args.self.on_zero c.args.self.on_one c.args.turn l q in
+    let p = pattern_plan c.args.self c.args.turn l q in
     let moved = c.if-goes_on.ensures ∙ ap (λ x. moves x c.args.ending) c.plan_at.ensures in
     record {
       is = ap (λ k. (q % k + 1) % k) c.from-k.ensures ∙ mod-add-mod q l.k 1 ∙ ap (λ t. cond t ((q + 1) % l.k) q) moved;
