@@ -1,11 +1,10 @@
 -- What is carried along a served log: the engine's status has what the account says, and the busy window's balance holds.
-use Rattle.std.proofs.Common.{◌≡◌, ℕ, zero, suc, ◌+◌, ◌<◌, ◌≤◌, Bool, true, ◌≢◌, List, [], ◌∷◌, ◌++◌, length, get_or, Some, Option, None, Result, sym, refl, ap, ◌∙◌, subst, inl, inr, ⊎_elim, append-nil, arith, length-append}
-use Rattle.std.proofs.lemmas.Bool.{cases_eq}
+use Rattle.std.proofs.Common.{◌≡◌, ℕ, zero, suc, ◌+◌, ◌<◌, ◌≤◌, Bool, true, ◌≢◌, List, [], ◌++◌, length, get_or, Some, Option, None, Result, sym, refl, ap, ◌∙◌, subst, inl, inr, ⊎_elim, append-nil, arith, length-append}
+use Rattle.std.proofs.lemmas.Bool.Decides.{nat_tests}
 use Rattle.tasks.specs.declared.line.Line.{Line}
 use Rattle.tasks.specs.declared.table.Table.{Table}
 use Rattle.tasks.specs.declared.job.Plan.{Plan}
 use Rattle.tasks.specs.declared.job.Outcome.{Outcome}
-use Rattle.tasks.specs.declared.job.Outcome.TheVariants.{Idle, On, Again, Ended}
 use Rattle.tasks.specs.declared.refusal.Refusal.{Refusal}
 use Rattle.tasks.specs.Tables.{lines_of, Numbered}
 use Rattle.policies.specs.Promises.{Meaning, Promises}
@@ -60,59 +59,32 @@ pub record Carried (m : Meaning) (a : Account) (st : Status) : Type 0 where
 
 module _ (t : Tally) where
   pub outcome_releases : (x : Outcome) → (with_outcome x t).releases ≡ t.releases
-  outcome_releases Idle = refl
-  outcome_releases On = refl
-  outcome_releases Again = refl
-  outcome_releases (Ended e) = refl
+  outcome_releases x = grind arith
 
   outcome_last : (x : Outcome) → (with_outcome x t).last ≡ t.last
-  outcome_last Idle = refl
-  outcome_last On = refl
-  outcome_last Again = refl
-  outcome_last (Ended e) = refl
+  outcome_last x = grind arith
 
   outcome_ends : (x : Outcome) → (with_outcome x t).ends ≡ t.ends ++ window.added x
-  outcome_ends Idle = sym (append-nil t.ends)
-  outcome_ends On = sym (append-nil t.ends)
-  outcome_ends Again = sym (append-nil t.ends)
-  outcome_ends (Ended e) = refl
+  outcome_ends x = grind (arith, append-nil)
 
   outcome_pending : (l : Line) (o : OpenJob) (x : Outcome) → t.pending ≡ true → (with_outcome x t).pending ≡ is_open (job_after l o x)
-  outcome_pending l o Idle e = e
-  outcome_pending l o On e = e
-  outcome_pending l o Again e = e
-  outcome_pending l o (Ended x) e = refl
+  outcome_pending l o x e = grind arith
 
 module _ (m : Meaning) (l : Line) (t : Task) (o : OpenJob) where
   after_releases : (x : Outcome) → (task_after m l t o x).releases ≡ t.releases
-  after_releases Idle = refl
-  after_releases On = refl
-  after_releases Again = refl
-  after_releases (Ended e) = refl
+  after_releases x = grind arith
 
   after_last : (x : Outcome) → (task_after m l t o x).last ≡ t.last
-  after_last Idle = refl
-  after_last On = refl
-  after_last Again = refl
-  after_last (Ended e) = refl
+  after_last x = grind arith
 
   after_job : (x : Outcome) → (task_after m l t o x).job ≡ job_after l o x
-  after_job Idle = refl
-  after_job On = refl
-  after_job Again = refl
-  after_job (Ended e) = refl
+  after_job x = grind arith
 
   after_ends : (x : Outcome) (y : Tally) → t.ends ≡ length y.ends → (task_after m l t o x).ends ≡ length (with_outcome x y).ends
-  after_ends Idle y e = e
-  after_ends On y e = e
-  after_ends Again y e = e
-  after_ends (Ended x) y e = omega (arith, length-append y.ends (x ∷ []))
+  after_ends x y e = grind (arith, length-append)
 
   after_mark : (x : Outcome) (y : Tally) → t.mark ≡ mark_after (m.plan l) (m.next l) 0 y.ends → (task_after m l t o x).mark ≡ mark_after (m.plan l) (m.next l) 0 (with_outcome x y).ends
-  after_mark Idle y e = e
-  after_mark On y e = e
-  after_mark Again y e = e
-  after_mark (Ended x) y e = ap (λ (q : ℕ). m.next l q x) e ∙ sym (mark_append (m.plan l) (m.next l) 0 y.ends (x ∷ []))
+  after_mark x y e = grind (arith, mark_append (m.plan l) (m.next l) 0 y.ends)
 
 closed_free : (j : Option OpenJob) → j ≡ None → pending_of j ≡ window.free
 closed_free j e = ap pending_of e
@@ -123,10 +95,7 @@ apart h i ne e = ne (omega arith)
 
 -- what holds of the changed record and tally, and held of each other, holds of all
 each_of : (n k : ℕ) (w : Task) (y : Tally) (task : ℕ → Task) (tally : ℕ → Tally) (P : Task → Tally → Type 0) → (k ≡ n → P w y) → P (task k) (tally k) → P (put n w task k) (put n y tally k)
-each_of n k w y task tally P new old = ⊎_elim
-    (λ (e : k ≡ n). subst (λ (j : ℕ). P (put n w task j) (put n y tally j)) (sym e) (rw (put_here n w task, put_here n y tally) (new e)))
-    (λ (ne : k ≡ n → ⊥). rw (put_there n w task k ne, put_there n y tally k ne) old)
-    (cases_eq k n)
+each_of n k w y task tally P new old = grind (arith, nat_tests)
 
 module _ (m : Meaning) (promises : Promises m) where
   pub carried_new : Carried m (account []) new_status
@@ -137,11 +106,11 @@ module _ (m : Meaning) (promises : Promises m) where
     last_is = λ n. refl;
     ends_is = λ n. refl;
     pending_is = λ n. refl;
-    mark_is = λ ls n l e. let z : ◌≡◌ {A = ℕ} 0 1 = cc in absurd (omega arith);
-    figures_is = λ ls e. let z : ◌≡◌ {A = ℕ} 0 1 = cc in absurd (omega arith);
-    taken = λ ls e. let z : ◌≡◌ {A = ℕ} 0 1 = cc in absurd (omega arith);
+    mark_is = λ ls n l e. cc;
+    figures_is = λ ls e. cc;
+    taken = λ ls e. cc;
     lasting = λ n. omega arith;
-    sound = λ ls d e. let z : ◌≡◌ {A = ℕ} 0 1 = cc in absurd (omega arith);
+    sound = λ ls d e. cc;
   }
 
   carried_opened : (a : Account) (st : Status) (ls : List Line) (places : List ℕ) → st.ticks ≡ a.ticks → Taken m.takes ls (length ls) → Figures m.demand ls (length ls) places
@@ -172,7 +141,7 @@ module _ (m : Meaning) (promises : Promises m) where
     ends_is = v.ends_is;
     pending_is = v.pending_is;
     mark_is = v.mark_is;
-    figures_is = λ ls e. let was = v.lines_is in let z : ◌≡◌ {A = ℕ} 0 1 = cc in absurd (omega arith);
+    figures_is = λ ls e. let was = v.lines_is in cc;
     taken = v.taken;
     lasting = v.lasting;
     sound = v.sound;

@@ -1,23 +1,17 @@
 -- Each list of calls has one list of answers.
-use Rattle.std.proofs.Common.{◌≡◌, List, ◌∷◌, length, Result, sym, refl, ap, ◌∙◌, subst, arith}
+use Rattle.std.proofs.Common.{◌≡◌, List, ◌∷◌, length, Result, refl, ap, subst, arith}
 use Rattle.tasks.specs.declared.refusal.Refusal.{Refusal}
 use Rattle.policies.specs.Promises.{Meaning}
 use Rattle.engine.specs.Status.{Status}
 use Rattle.engine.proofs.Sole.{opening_sole, release_sole, tick_sole, counts_sole, figure_sole}
 use Rattle.service.specs.declared.log.Call.{Call}
-use Rattle.service.specs.declared.log.Call.TheVariants as call
 use Rattle.service.specs.declared.log.Reply.{Reply}
-use Rattle.service.specs.declared.log.Reply.TheVariants.{Opened, Planned, Figured}
 use Rattle.service.specs.declared.log.Entry.{Entry}
-use Rattle.service.specs.Served.{answer, ticked, counted, calls, Answers, Served, no_call, one_more, Alone}
+use Rattle.service.specs.Served.{calls, Answers, Served, no_call, one_more, Alone}
 
 module _ (m : Meaning) where
   one_answer : (st : Status) (c : Call) (r r' : Result Reply Refusal) (st1 st2 : Status) → Answers m st c r st1 → Answers m st c r' st2 → (r ≡ r') × (st1 ≡ st2)
-  one_answer st (call.Open t) r r' st1 st2 (x, e, s) (y, f, u) = let z = opening_sole m st t x y st1 st2 s u in (e ∙ ap (answer Opened) z.0 ∙ sym f, z.1)
-  one_answer st (call.Release n) r r' st1 st2 (x, e, s) (y, f, u) = let z = release_sole m st n x y st1 st2 s u in (e ∙ ap (answer Planned) z.0 ∙ sym f, z.1)
-  one_answer st (call.Tick w) r r' st1 st2 (x, e, s) (y, f, u) = let z = tick_sole m st w x y st1 st2 s u in (e ∙ ap (answer ticked) z.0 ∙ sym f, z.1)
-  one_answer st (call.Counts n) r r' st1 st2 (x, e, s) (y, f, u) = let z = counts_sole st n x y st1 st2 s u in (e ∙ ap (answer counted) z.0 ∙ sym f, z.1)
-  one_answer st (call.Figure n) r r' st1 st2 (x, e, s) (y, f, u) = let z = figure_sole st n x y st1 st2 s u in (e ∙ ap (answer Figured) z.0 ∙ sym f, z.1)
+  one_answer st c r r' st1 st2 a b = grind (arith, opening_sole m, release_sole m, tick_sole m, counts_sole, figure_sole)
 
   one_log : {log other : List Entry} {st st' : Status} → Served m other st' → Served m log st → calls other ≡ calls log → (other ≡ log) × (st' ≡ st)
   one_log no_call no_call p = (refl, refl)

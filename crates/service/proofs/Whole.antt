@@ -120,7 +120,7 @@ module _ (m : Meaning) where
     tells_tick word (Ok x) st' (step.ticks {ls} there more on) = tells_on ls word x.0 x.1 st' there on
 
     tells_plan : (n : ℕ) (ls : List Line) (l : Line) (p : Plan) (st' : Status) → st.lines ≡ Some ls → Numbered ls n l → step.ReleaseOn m st n l (Ok p) st' → Tells m a (call.Release n) (Ok (Planned p))
-    tells_plan n ls l p st' there named (step.starts rested shut planned) = plan_told (λ xs x e at.
+    tells_plan n ls l p st' there named (step.starts rested shut planned) = plan_told (λ (xs : List Line) (x : Line) (e : a.lines ≡ Some xs) (at : Numbered xs n x).
         let lines = v.lines_is in let same : ls ≡ xs = cc in
         let line : l ≡ x = same_line xs n l x (subst (λ (ys : List Line). Numbered ys n l) same named) at in
         planned ∙ ap (λ (y : Line). m.plan y (st.task n).mark) line ∙ ap (m.plan x) (v.mark_is xs n x e at))
@@ -130,13 +130,10 @@ module _ (m : Meaning) where
     tells_release n (Ok p) st' (step.of_line {ls} {l} there named on) = tells_plan n ls l p st' there named on
 
     tells_opening : (t : Table) (r : Result Bool Refusal) → Tells m a (call.Open t) (answer Opened r)
-    tells_opening t (Ok b) = admission
-    tells_opening t (Err e) = a_refusal
+    tells_opening t r = grind (arith, admission, a_refusal)
 
     tells_counts : (n : ℕ) (r : Result (ℕ × ℕ) Refusal) (st' : Status) → step.CountsAsked st n r st' → Tells m a (call.Counts n) (answer counted r)
-    tells_counts n r st' (step.no_table c shut) = a_refusal
-    tells_counts n r st' (step.no_task c there none) = a_refusal
-    tells_counts n r st' (step.of_line there named (is, same)) = subst (λ (x : Result (ℕ × ℕ) Refusal). Tells m a (call.Counts n) (answer counted x)) (sym is) (counts_told (v.releases_is n) (v.ends_is n))
+    tells_counts n r st' asked = grind (arith, a_refusal, counts_told, v.releases_is n, v.ends_is n)
 
     tells_figure : (n : ℕ) (r : Result ℕ Refusal) (st' : Status) → step.FigureAsked st n r st' → Tells m a (call.Figure n) (answer Figured r)
     tells_figure n r st' (step.no_table c shut) = a_refusal
