@@ -1,8 +1,7 @@
 -- What the figures of lines answer, from the figure of each line.
-use Rattle.std.proofs.Common.{◌≡◌, ℕ, zero, suc, ◌-◌, ◌<◌, ◌≤◌, Bool, true, List, [], ◌∷◌, ◌++◌, length, get_or, take, replicate, Ok, Decides, sym, refl, ◌∙◌, subst, ⊎_elim, append_assoc, append-nil, arith, length-append}
-use lib.ListN.{length-replicate, get_or-replicate}
-use Rattle.std.proofs.lemmas.List.{get_or-append_right, get_or_past}
-use Rattle.std.proofs.lemmas.Bool.{cases_lt}
+use Rattle.std.proofs.Common.{◌≡◌, ℕ, zero, suc, ◌-◌, ◌<◌, ◌≤◌, Bool, true, List, [], ◌∷◌, ◌++◌, length, get_or, take, replicate, Ok, Decides, sym, subst, append_assoc, append-nil, arith, length-append}
+use lib.ListN.{length-replicate}
+use Rattle.std.proofs.lemmas.Grind.{common_steps}
 use Rattle.tasks.specs.declared.line.Line.{Line}
 use Rattle.response.specs.Figures.{Figure, Admitted, Answered, worked_out}
 use Rattle.report.specs.Answer.{takes, demand}
@@ -37,12 +36,7 @@ abbrev pub placed : List ℕ → List ℕ
 placed fs = fs ++ replicate (32 - length fs) 0
 
 past_last : (fs : List ℕ) (n i : ℕ) → length fs ≤ i → get_or (fs ++ replicate n 0) i 0 ≡ 0
-past_last fs n i h =
-    get_or-append_right fs (replicate n 0) (length fs) i 0 refl h
-    ∙ ⊎_elim
-    (λ (within : i - length fs < n). get_or-replicate n (i - length fs) 0 0 within)
-    (λ (past : n ≤ i - length fs). get_or_past (replicate n 0) (i - length fs) 0 (omega (arith, length-replicate {A = ℕ} n 0)))
-    (cases_lt (i - length fs) n)
+past_last fs n i h = grind (arith, common_steps)
 
 pub worked : (ls : List Line) (fs : List ℕ) (v : Bool) → 1 ≤ length ls → length ls ≤ 32 → length fs ≡ length ls → Each [] ls fs → Decides v (Admitted (length ls) (placed fs)) → Answered takes demand ls (placed fs) (Ok v)
 worked ls fs v some few same each decides =

@@ -117,12 +117,11 @@ reported_figures = answered_so (cam Sre 10) (placed (20 ∷ 80 ∷ [])) true (λ
 
 pub reported_so : {bytes : List ℕ} → Answers cameras bytes → bytes ≡ report_told
 unfolding digits
-reported_so (unread x) = let z : ◌≡◌ {A = ℕ} 0 1 = cc cameras_said in absurd (omega arith)
+reported_so (unread x) = cc cameras_said
 reported_so (refused t {places = places} {e = e} x f) =
     let rows : rows_of t ≡ cam Sre 10 ∷ arm ∷ [] = cc cameras_said in
     let so : Err e ≡ Ok true = (reported_figures (lines_of t) rows places (Err e) f).0 in
-    let z : ◌≡◌ {A = ℕ} 0 1 = cc in
-    absurd (omega arith)
+    cc
 reported_so (worked_out t {places = places} {admitted = v} x f) =
     let rows : rows_of t ≡ cam Sre 10 ∷ arm ∷ [] = cc cameras_said in
     let so = reported_figures (lines_of t) rows places (Ok v) f in

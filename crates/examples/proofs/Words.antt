@@ -12,8 +12,7 @@ use Rattle.examples.specs.Words.{pattern_words}
 
 -- what a window is told
 pub told_word : (p : Pattern) (m k : ℕ) → Window m k → (r : Option ℕ) → MatchOption r (Window m k → ⊥) (λ w. Window m k × Follows p m k w) → r ≡ Some (pattern_word p m k)
-told_word p m k h None c = absurd (c h)
-told_word p m k h (Some w) c = ap (λ x. Some x) c.1.is
+told_word p m k h r c = grind arith
 
 pub words_are : Some (pattern_word R 3 10) ∷ Some (pattern_word E 3 10) ∷ Some (pattern_word E 7 10) ∷ Some (pattern_word R 1 1) ∷ Some (pattern_word E 1 1) ∷ [] ≡ pattern_words
 unfolding word_of sum_below

@@ -1,4 +1,4 @@
-use Rattle.std.proofs.Common.{◌≡◌, ℕ, Ok, Err, arith}
+use Rattle.std.proofs.Common.{◌≡◌, Ok, Err}
 use Rattle.tasks.specs.Rows.{rows_of}
 use Rattle.text.specs.Reading.{Reads, reading}
 use Rattle.examples.specs.Runs.{run_text}
@@ -10,5 +10,5 @@ returns c =
     let t = c.read.new.table in
     elim c.read.result as (λ r. Reads run_text r t → reading run_text ≡ Ok (rows_of t)) [
       | Ok u ↦ λ says. says
-      | Err e ↦ λ says. let z : ◌≡◌ {A = ℕ} 0 1 = cc (says.0, run_said) in absurd (omega arith)
+      | Err e ↦ λ says. cc (says.0, run_said)
     ] c.read.ensures.says
