@@ -8,6 +8,7 @@ use tasks::table::Table;
 
 #[derive(Clone, Copy)]
 pub enum Call {
+    // the table itself, so that a log may outlive the tables that it was made with
     Open { table: Table },
     Release { task: u32 },
     Tick { word: u32 },
