@@ -4,7 +4,7 @@ ghost use Rattle.std.specs.Iterator.{YieldsFirstBy, item_count};
 ghost use Rattle.text.specs.Cuts.{closed};
 ghost use Rattle.text.specs.Layers.{part_of, lines_left};
 
-use crate::part::{Part, first};
+use crate::part::{Part, first_mark};
 
 // The lines of a text that are left: what stands before each line feed. What stands behind the last is no line.
 #[derive(Drop)]
@@ -32,7 +32,7 @@ impl<'a> Iterator for Lines<'a> {
     fn next(&mut self) -> Option<Part<'a>> {
         let place = self.start;
         let rest = self.text.get(place..)?;
-        let end = first(rest, b'\n')?;
+        let end = first_mark(rest, b'\n')?;
         self.start = place + end + 1;
         Some(Part {
             bytes: &rest[..end],

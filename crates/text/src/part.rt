@@ -7,7 +7,7 @@ use crate::value::FieldValue;
 use tasks::refusal::Refusal;
 
 // Where the first mark stands.
-pub(crate) fn first(bytes: &[u8], mark: u8) -> Option<usize>
+pub fn first_mark(bytes: &[u8], mark: u8) -> Option<usize>
     ensures { result ≡ position (λ b. b == mark) bytes.now }
 {
     bytes.iter().position(|byte| *byte == mark)
@@ -33,7 +33,7 @@ impl<'a> Part<'a> {
         ensures { Within self.entry → Cut mark (part_of self.entry) (part_of result.0) (part_of result.1) }
     {
         let Part { bytes, place } = self;
-        match first(bytes, mark) {
+        match first_mark(bytes, mark) {
             Some(at) => (
                 Part {
                     bytes: &bytes[..at],

@@ -1,43 +1,47 @@
 // The lines that tell what calls were answered, and how the tasks stand.
-ghost use Rattle.std.specs.Prelude.{◌≡◌, ◌++◌, IfOk, string_bytes, OnOk};
-ghost use Rattle.transcript.specs.Answers.{reply_line, answer_line, task_line};
+ghost use Rattle.std.specs.Prelude.{◌≡◌, ◌++◌, OnOk, Some};
+ghost use Rattle.transcript.specs.Answers.{answer_line, task_line};
 
-use report::report::refused;
+use report::report::{RefusalLine, verdict_line};
 use service::log::{Answer, Reply};
-use std::alloc::{AllocError, Global};
+use std::alloc::AllocError;
+use std::fmt;
 
-fn reply_line(heap: Global, reply: Reply) -> Result<String, AllocError>
-    ensures { IfOk result (λ s. string_bytes s ≡ reply_line reply) }
-{
-    match reply {
-        Reply::Opened { admitted: true } => String::from_str(heap, "admitted\n"),
-        Reply::Opened { admitted: false } => String::from_str(heap, "rejected\n"),
-        Reply::Planned { plan } => {
-            let word = plan.word();
-            format!(in heap; "{word}\n")
+// The line of an answer.
+#[derive(Clone, Copy)]
+struct AnswerLine<'a>(&'a Answer);
+
+impl fmt::Display for AnswerLine<'_> {
+    ghost output = { λ l. Some (answer_line l.0.now) };
+
+    fn fmt<W: fmt::Write>(&self, f: &mut fmt::Formatter<W>) -> fmt::Result {
+        match self.0 {
+            Ok(Reply::Opened { admitted }) => f.write_str(verdict_line(*admitted)),
+            Ok(Reply::Planned { plan }) => {
+                let word = plan.word();
+                write!(f, "{word}\n")
+            }
+            Ok(Reply::Ticked { task, outcome }) => {
+                let word = outcome.word();
+                write!(f, "{task},{word}\n")
+            }
+            Ok(Reply::Counted { releases, ends }) => write!(f, "{releases},{ends}\n"),
+            Ok(Reply::Figured { figure }) => write!(f, "{figure}\n"),
+            Err(refusal) => RefusalLine(*refusal).fmt(f),
         }
-        Reply::Ticked { task, outcome } => {
-            let word = outcome.word();
-            format!(in heap; "{task},{word}\n")
-        }
-        Reply::Counted { releases, ends } => format!(in heap; "{releases},{ends}\n"),
-        Reply::Figured { figure } => format!(in heap; "{figure}\n"),
     }
 }
 
 // Adds the line of an answer. Want of memory is the only error.
-pub fn push_answer(heap: Global, out: &mut Vec<u8>, answer: &Answer) -> Result<(), AllocError>
+pub fn push_answer(out: &mut Vec<u8>, answer: &Answer) -> Result<(), AllocError>
     ensures { OnOk result (out.new.items ≡ out.old.items ++ answer_line answer.now) }
 {
-    match answer {
-        Ok(reply) => out.extend_from_slice(reply_line(heap, *reply)?.as_bytes()),
-        Err(refusal) => out.extend_from_slice(refused(heap, *refusal)?.as_slice()),
-    }
+    let line = AnswerLine(answer).to_string(*out.allocator())?;
+    out.extend_from_slice(line.as_bytes())
 }
 
 // Adds the line of a task: its number, releases, ends and figure. Want of memory is the only error.
 pub fn push_task(
-    heap: Global,
     out: &mut Vec<u8>,
     number: u32,
     releases: u64,
@@ -46,6 +50,6 @@ pub fn push_task(
 ) -> Result<(), AllocError>
     ensures { OnOk result (out.new.items ≡ out.old.items ++ task_line number releases ends figure) }
 {
-    let line = format!(in heap; "{number},{releases},{ends},{figure}\n")?;
+    let line = format!(in *out.allocator(); "{number},{releases},{ends},{figure}\n")?;
     out.extend_from_slice(line.as_bytes())
 }

@@ -1,11 +1,14 @@
 // The call that a line of a script says.
-ghost use Rattle.std.specs.Prelude.{◌≡◌, ℕ, MatchOption};
+ghost use Rattle.std.specs.Prelude.{◌≡◌, ℕ, List, [], ◌∷◌, ◌++◌, MatchOption};
 ghost use Rattle.service.specs.declared.log.Call.{Call};
+ghost use Rattle.text.specs.Cuts.{count};
 ghost use Rattle.text.specs.Values.{number_of};
 ghost use Rattle.transcript.specs.Calls.{Numeral, Follows, Says};
 
 use service::log::Call;
 use tasks::table::Table;
+use text::number;
+use text::part::first_mark;
 
 // The number that 1 to 9 digits write.
 fn number(digits: &[u8]) -> Option<u32>
@@ -14,21 +17,15 @@ fn number(digits: &[u8]) -> Option<u32>
     if digits.is_empty() || digits.len() > 9 {
         return None;
     }
-    let mut value: u32 = 0;
-    for digit in digits {
-        if !digit.is_ascii_digit() {
-            return None;
-        }
-        value = value * 10 + (*digit - b'0') as u32;
-    }
-    Some(value)
+    number::number(digits)
 }
 
-// The number that follows a word, to the end of the line.
-fn number_after(line: &[u8], word: &[u8]) -> Option<u32>
-    ensures { MatchOption result ((n : ℕ) → Follows line.now word.now n → ⊥) (λ n. Follows line.now word.now n) }
+// The word before the first space, and the number behind it, to the end of the line.
+fn word_and_number(line: &[u8]) -> Option<(&[u8], u32)>
+    ensures { MatchOption result ((word : List ℕ) (n : ℕ) → count 32 word ≡ 0 → Follows line.now (word ++ (32 ∷ [])) n → ⊥) (λ p. (count 32 p.0.now ≡ 0) × Follows line.now (p.0.now ++ (32 ∷ [])) p.1) }
 {
-    number(line.strip_prefix(word)?)
+    let space = first_mark(line, b' ')?;
+    Some((&line[..space], number(&line[space + 1..])?))
 }
 
 // The call that a line, without its line feed, says; `open` opens the table.
@@ -36,15 +33,18 @@ pub fn call_on(line: &[u8], table: &Table) -> Option<Call>
     ensures { MatchOption result ((c : Call) → Says table.now line.now c → ⊥) (λ c. Says table.now line.now c × ((other : Call) → Says table.now line.now other → other ≡ c)) }
 {
     if line == b"open".as_slice() {
-        Some(Call::Open { table: *table })
-    } else if let Some(task) = number_after(line, b"release ") {
-        Some(Call::Release { task })
-    } else if let Some(word) = number_after(line, b"tick ") {
-        Some(Call::Tick { word })
-    } else if let Some(task) = number_after(line, b"counts ") {
-        Some(Call::Counts { task })
-    } else if let Some(task) = number_after(line, b"figure ") {
-        Some(Call::Figure { task })
+        return Some(Call::Open { table: *table });
+    }
+    let (word, number) = word_and_number(line)?;
+    // A chain of tests: at a match on byte strings a goal is left for each byte that may differ.
+    if word == b"release".as_slice() {
+        Some(Call::Release { task: number })
+    } else if word == b"tick".as_slice() {
+        Some(Call::Tick { word: number })
+    } else if word == b"counts".as_slice() {
+        Some(Call::Counts { task: number })
+    } else if word == b"figure".as_slice() {
+        Some(Call::Figure { task: number })
     } else {
         None
     }
