@@ -4,33 +4,28 @@
 use report::report::report;
 use std::io::{Read, Write};
 
-// Prints the reports of the texts in the input; a line that is just `%%` ends a text and belongs to none.
-fn print_reports(rt: &HostRuntime, input: &[u8]) -> anyhow::Result<()> {
-    let mut start = 0;
-    let mut line = 0;
-    for (i, byte) in input.iter().enumerate() {
-        if *byte != b'\n' {
-            continue;
-        }
-        if &input[line..i] == b"%%".as_slice() {
-            rt.stdout()
-                .write_all(report(rt.alloc(), &input[start..line])?.as_slice())?;
-            rt.stdout().write_all(b"%%\n")?;
-            start = i + 1;
-        }
-        line = i + 1;
-    }
-    rt.stdout()
-        .write_all(report(rt.alloc(), &input[start..])?.as_slice())?;
+fn print_report(rt: &HostRuntime, text: &[u8]) -> anyhow::Result<()> {
+    rt.stdout().write_all(report(rt.alloc(), text)?.as_slice())?;
     Ok(())
 }
 
-fn run(rt: &HostRuntime) -> anyhow::Result<()> {
-    let mut input = Vec::new(rt.alloc());
-    rt.stdin().read_to_end(&mut input)?;
-    print_reports(rt, input.as_slice())
+// Prints the reports of the texts in the input; a line that is just `%%` ends a text and belongs to none.
+fn print_reports(rt: &HostRuntime, input: &[u8]) -> anyhow::Result<()> {
+    let mut text = Vec::new(rt.alloc());
+    for line in input.split_inclusive(|byte| *byte == b'\n') {
+        if line == b"%%\n".as_slice() {
+            print_report(rt, text.as_slice())?;
+            rt.stdout().write_all(line)?;
+            text.clear();
+        } else {
+            text.extend_from_slice(line)?;
+        }
+    }
+    print_report(rt, text.as_slice())
 }
 
 fn main(rt: HostRuntime) -> anyhow::Result<()> {
-    run(&rt)
+    let mut input = Vec::new(rt.alloc());
+    rt.stdin().read_to_end(&mut input)?;
+    print_reports(&rt, input.as_slice())
 }

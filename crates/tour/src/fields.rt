@@ -1,7 +1,8 @@
 // The first stage: the text's lines and fields, each with its place.
 use std::io::Write;
 use text::line::{Fields, split_fields};
-use text::token::Part;
+use text::lines::Lines;
+use text::part::Part;
 
 // Writes bytes as they are.
 pub(crate) fn write(rt: &HostRuntime, bytes: &[u8]) -> anyhow::Result<()> {
@@ -29,7 +30,7 @@ fn show_fields(rt: &HostRuntime, f: Fields<'_>) -> anyhow::Result<()> {
     show(rt, "period", f.period)
 }
 
-// A line of the text that begins at a place.
+// A line of the text, with its number.
 fn show_line(rt: &HostRuntime, number: u32, part: Part<'_>) -> anyhow::Result<()> {
     print!(rt; "Line {number}: ")?;
     write(rt, part.bytes)?;
@@ -50,21 +51,8 @@ pub(crate) fn stage(rt: &HostRuntime, text: &[u8]) -> anyhow::Result<()> {
         "1. The text has {count} bytes. Each line is cut at its commas into nine fields, and each"
     )?;
     println!(rt; "   field keeps the place of its first byte, so that a refusal can point at it.")?;
-    let mut start = 0;
-    let mut number: u32 = 1;
-    for (end, byte) in text.iter().enumerate() {
-        if *byte == b'\n' {
-            show_line(
-                rt,
-                number,
-                Part {
-                    bytes: &text[start..end],
-                    place: start,
-                },
-            )?;
-            start = end + 1;
-            number = number.saturating_add(1);
-        }
+    for (number, line) in (1..=u32::MAX).zip(Lines::new(text)) {
+        show_line(rt, number, line)?;
     }
     Ok(())
 }

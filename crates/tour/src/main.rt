@@ -19,22 +19,18 @@ fn refused(rt: &HostRuntime, refusal: Refusal) -> anyhow::Result<()> {
     Ok(())
 }
 
-fn run(rt: &HostRuntime) -> anyhow::Result<()> {
+fn main(rt: HostRuntime) -> anyhow::Result<()> {
     let mut text = Vec::new(rt.alloc());
     rt.stdin().take(LONGEST as u64 + 1).read_to_end(&mut text)?;
     println!(rt; "From the bytes of a task table to its verdict, stage by stage.")?;
-    fields::stage(rt, text.as_slice())?;
+    fields::stage(&rt, text.as_slice())?;
     let mut table = Table::new();
     match read(&mut table, text.as_slice()) {
         Ok(()) => {
-            show::stage(rt, &table)?;
-            demands::stage(rt, &table)?;
-            search::stage(rt, &table)
+            show::stage(&rt, &table)?;
+            demands::stage(&rt, &table)?;
+            search::stage(&rt, &table)
         }
-        Err(refusal) => refused(rt, refusal),
+        Err(refusal) => refused(&rt, refusal),
     }
-}
-
-fn main(rt: HostRuntime) -> anyhow::Result<()> {
-    run(&rt)
 }

@@ -11,7 +11,7 @@ fn show_load(rt: &HostRuntime, above: &[Line], line: &Line, t: u64) -> anyhow::R
     let mut load = ByLine {}.demand_of(line, 1);
     print!(rt; "  t = {t}: {load} for its own job")?;
     for h in above {
-        let jobs = t.div_ceil(h.period as u64).min(u32::MAX as u64) as u32;
+        let jobs = u32::try_from(t.div_ceil(u64::from(h.period))).unwrap_or(u32::MAX);
         let demand = ByLine {}.demand_of(h, jobs);
         print!(rt; ", {demand} for {jobs} of ")?;
         write(rt, h.name.bytes())?;
@@ -31,7 +31,7 @@ fn show_search(rt: &HostRuntime, above: &[Line], line: &Line) -> anyhow::Result<
             println!(rt; "  no more than {t}: t passes, and the figure is {t}")?;
             return Ok(());
         }
-        if load > line.period as u64 {
+        if load > u64::from(line.period) {
             println!(rt; "  past the period: no t passes, and the figure is 0")?;
             return Ok(());
         }

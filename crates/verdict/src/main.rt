@@ -5,14 +5,10 @@ use report::report::report;
 use std::io::{Read, Write};
 use text::read::LONGEST;
 
-fn run(rt: &HostRuntime) -> anyhow::Result<()> {
+fn main(rt: HostRuntime) -> anyhow::Result<()> {
     let mut text = Vec::new(rt.alloc());
     rt.stdin().take(LONGEST as u64 + 1).read_to_end(&mut text)?;
     rt.stdout()
         .write_all(report(rt.alloc(), text.as_slice())?.as_slice())?;
     Ok(())
-}
-
-fn main(rt: HostRuntime) -> anyhow::Result<()> {
-    run(&rt)
 }
