@@ -65,10 +65,10 @@ lead_none : (c : ℕ) (bs : List ℕ) → count c bs ≡ 0 → lead c bs ≡ len
 lead_none c [] h = refl
 lead_none c (b ∷ bs) h = lead_step (eqb b c) c bs h (lead_none c bs)
 
-marked : (c : ℕ) (bs : List ℕ) → lead c bs < length bs → 1 ≤ count c bs
+pub marked : (c : ℕ) (bs : List ℕ) → lead c bs < length bs → 1 ≤ count c bs
 marked c bs h = ⊎_elim (λ (some : 0 < count c bs). some) (λ (none : count c bs ≤ 0). absurd (omega (arith, lead_none c bs (omega arith)))) (cases_lt 0 (count c bs))
 
-unmarked : (c : ℕ) (bs : List ℕ) → length bs ≤ lead c bs → count c bs ≡ 0
+pub unmarked : (c : ℕ) (bs : List ℕ) → length bs ≤ lead c bs → count c bs ≡ 0
 unmarked c bs h = ⊎_elim (λ (some : 0 < count c bs). absurd (omega (arith, (first_at c 0 bs some).within))) (λ (none : count c bs ≤ 0). omega arith) (cases_lt 0 (count c bs))
 
 -- ---- how many parts

@@ -31,14 +31,15 @@ pub no_space : (bs : List ℕ) → count 32 (take (lead 32 bs) bs) ≡ 0
 no_space [] = refl
 no_space (b ∷ bs) = count_step (b == 32) b bs refl (no_space bs)
 
-whole_step : (t : Bool) (b : ℕ) (bs : List ℕ) → b == 32 ≡ t → (lead 32 bs < length bs → bs ≡ take (lead 32 bs) bs ++ (32 ∷ drop (suc (lead 32 bs)) bs)) → cond t 0 (suc (lead 32 bs)) < suc (length bs) →
-    b ∷ bs ≡ take (cond t 0 (suc (lead 32 bs))) (b ∷ bs) ++ (32 ∷ drop (suc (cond t 0 (suc (lead 32 bs)))) (b ∷ bs))
-whole_step true b bs e h l = ap (λ x. x ∷ bs) (eqb-true b 32 e)
-whole_step false b bs e h l = ap (λ xs. b ∷ xs) (h (omega arith))
+whole_step : (t : Bool) (c b : ℕ) (bs : List ℕ) → b == c ≡ t → (lead c bs < length bs → bs ≡ take (lead c bs) bs ++ (c ∷ drop (suc (lead c bs)) bs)) → cond t 0 (suc (lead c bs)) < suc (length bs) →
+    b ∷ bs ≡ take (cond t 0 (suc (lead c bs))) (b ∷ bs) ++ (c ∷ drop (suc (cond t 0 (suc (lead c bs)))) (b ∷ bs))
+whole_step true c b bs e h l = ap (λ x. x ∷ bs) (eqb-true b c e)
+whole_step false c b bs e h l = ap (λ xs. b ∷ xs) (h (omega arith))
 
-pub whole_line : (bs : List ℕ) → lead 32 bs < length bs → bs ≡ take (lead 32 bs) bs ++ (32 ∷ drop (suc (lead 32 bs)) bs)
-whole_line [] h = absurd (omega arith)
-whole_line (b ∷ bs) h = whole_step (b == 32) b bs refl (whole_line bs) h
+-- bytes are what stands before the first mark, the mark and what follows it
+pub whole_line : (c : ℕ) (bs : List ℕ) → lead c bs < length bs → bs ≡ take (lead c bs) bs ++ (c ∷ drop (suc (lead c bs)) bs)
+whole_line c [] h = absurd (omega arith)
+whole_line c (b ∷ bs) h = whole_step (b == c) c b bs refl (whole_line c bs) h
 
 -- a line that a word and a number make begins with the word
 module _ (line word : List ℕ) (lacks : count 32 word ≡ 0) (n : ℕ) (f : Follows line (word ++ (32 ∷ [])) n) where
@@ -74,7 +75,7 @@ pub cut_line : (line : List ℕ) (at : ℕ) → at ≡ lead 32 line → at < len
 cut_line line at is room n h =
     let lead_at : lead 32 line ≡ at = sym is in
     let whole : line ≡ take at line ++ (32 ∷ drop (at + 1) line) =
-    whole_line line (omega arith) ∙ (λ i. take (lead_at i) line ++ (32 ∷ drop (suc (lead_at i)) line)) ∙ ap (λ k. take at line ++ (32 ∷ drop k line)) (sym (add-one at)) in
+    whole_line 32 line (omega arith) ∙ (λ i. take (lead_at i) line ++ (32 ∷ drop (suc (lead_at i)) line)) ∙ ap (λ k. take at line ++ (32 ∷ drop k line)) (sym (add-one at)) in
     (ap (λ k. count 32 (take k line)) is ∙ no_space line, (drop (at + 1) line, whole ∙ sym (append_assoc (take at line) (32 ∷ []) (drop (at + 1) line)), h.0, h.1))
 
 -- ---- what a line says

@@ -1,6 +1,6 @@
-use Rattle.std.proofs.Common.{ℕ, ◌≤◌, List, length}
-use Rattle.transcript.specs.Scripts.{Parts}
+use Rattle.text.specs.Layers.{lines_left}
+use Rattle.transcript.proofs.Parting.{Left}
 use Rattle.transcript.proofs.script.split_script.Given as goal
 
-abbrev pub invariant-loop-at : goal.invariant-loop-at
-invariant-loop-at l = (table script : List ℕ) → Parts l.text table script → l.at ≤ length table
+abbrev pub invariant-loop-line : goal.invariant-loop-line
+invariant-loop-line l = Left l.text (lines_left l.line-iterator)
