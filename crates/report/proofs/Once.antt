@@ -1,5 +1,5 @@
 -- A text has one answer.
-use Rattle.std.proofs.Common.{◌≡◌, ℕ, List, [], ◌∷◌, ◌++◌, map, Ok, Err, sym, refl, ap, ◌∙◌, subst, arith}
+use Rattle.std.proofs.Common.{◌≡◌, ℕ, List, [], ◌∷◌, ◌++◌, map, Ok, Err, sym, refl, ap, ◌∙◌, subst}
 use Rattle.tasks.specs.declared.line.Line.{Line}
 use Rattle.tasks.specs.declared.refusal.Refusal.{Refusal}
 use Rattle.tasks.specs.Lines.{names}
@@ -18,7 +18,7 @@ module _ (text : List ℕ) where
   one_reading a b = cc
 
   not_both : {rs : List Row} {e : Refusal} → reading text ≡ Ok rs → reading text ≡ Err e → ⊥
-  not_both a b = let z : ◌≡◌ {A = ℕ} 0 1 = cc in omega arith
+  not_both a b = cc
 
   pub one_answer : {a b : List ℕ} → Answers text a → Answers text b → a ≡ b
   one_answer (unread {e} x) (unread {e = f} y) = let same : e ≡ f = cc in ap refusal_line same
@@ -31,13 +31,11 @@ module _ (text : List ℕ) where
       ap refusal_line same
   one_answer (refused t {places = p} {e = e} x f) (worked_out u {places = q} {admitted = b} y g) =
       let apart : Err e ≡ Ok b = (answer_alike (lines_of t) (lines_of u) (one_reading x y) p q (Err e) (Ok b) f g).0 in
-      let z : ◌≡◌ {A = ℕ} 0 1 = cc in
-      absurd (omega arith)
+      absurd cc
   one_answer (worked_out t x f) (unread y) = absurd (not_both x y)
   one_answer (worked_out t {places = p} {admitted = b} x f) (refused u {places = q} {e = e} y g) =
       let apart : Ok b ≡ Err e = (answer_alike (lines_of t) (lines_of u) (one_reading x y) p q (Ok b) (Err e) f g).0 in
-      let z : ◌≡◌ {A = ℕ} 0 1 = cc in
-      absurd (omega arith)
+      absurd cc
   one_answer (worked_out t {places = p} {admitted = b} x f) (worked_out u {places = q} {admitted = b'} y g) =
       let alike = answer_alike (lines_of t) (lines_of u) (one_reading x y) p q (Ok b) (Ok b') f g in
       let told : Ok b ≡ Ok b' = alike.0 in

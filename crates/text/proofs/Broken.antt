@@ -1,5 +1,5 @@
 -- The first broken rule of lists that follow one another.
-use Rattle.std.proofs.Common.{◌≡◌, ℕ, Bool, true, false, cond, List, [], ◌∷◌, ◌++◌, Some, None, Option, refl, ◌∙◌, arith}
+use Rattle.std.proofs.Common.{◌≡◌, Bool, true, false, cond, List, [], ◌∷◌, ◌++◌, Some, None, Option, refl, ◌∙◌}
 use Rattle.tasks.specs.declared.refusal.Refusal.{Refusal}
 use Rattle.text.specs.Rules.{Rule, first_broken}
 
@@ -9,12 +9,12 @@ some_step false a b x e h k = h
 
 -- a rule of the first list is broken
 pub broken_first : (xs ys : List Rule) (e : Refusal) → first_broken xs ≡ Some e → first_broken (xs ++ ys) ≡ Some e
-broken_first [] ys e h = absurd (let z : ◌≡◌ {A = ℕ} 0 1 = cc in omega arith)
+broken_first [] ys e h = absurd cc
 broken_first (r ∷ rs) ys e h = some_step r.kept (first_broken rs) (first_broken (rs ++ ys)) r.otherwise e h (broken_first rs ys e)
 
 none_step : (t : Bool) (a b o : Option Refusal) (x : Refusal) → cond t a (Some x) ≡ None → (a ≡ None → b ≡ o) → cond t b (Some x) ≡ o
 none_step true a b o x h k = k h
-none_step false a b o x h k = absurd (let z : ◌≡◌ {A = ℕ} 0 1 = cc in omega arith)
+none_step false a b o x h k = absurd cc
 
 -- none of the first list is
 pub broken_second : (xs ys : List Rule) → first_broken xs ≡ None → first_broken (xs ++ ys) ≡ first_broken ys
@@ -28,7 +28,7 @@ AllKept (r ∷ rs) = (r.kept ≡ true) × AllKept rs
 
 kept_step : (t : Bool) (o : Option Refusal) (e : Refusal) → cond t o (Some e) ≡ None → (t ≡ true) × (o ≡ None)
 kept_step true o e h = (refl, h)
-kept_step false o e h = absurd (let z : ◌≡◌ {A = ℕ} 0 1 = cc in omega arith)
+kept_step false o e h = absurd cc
 
 pub all_kept : (rs : List Rule) → first_broken rs ≡ None → AllKept rs
 all_kept [] h = tt

@@ -1,5 +1,5 @@
 -- What a reading answers, as a law of tables written out.
-use Rattle.std.proofs.Common.{◌≡◌, ℕ, List, Ok, Err, Result, arith}
+use Rattle.std.proofs.Common.{◌≡◌, ℕ, List, Ok, Err, Result}
 use Rattle.tasks.specs.Rows.{rows_of}
 use Rattle.tasks.specs.declared.refusal.Refusal.{Refusal}
 use Rattle.tasks.specs.declared.table.Table.{Table}
@@ -9,7 +9,7 @@ use Rattle.text.proofs.Sound.{sound}
 use Rattle.text.proofs.Whole.{whole}
 
 refused : (text : List ℕ) (e : Refusal) → reading text ≡ Err e → (t : Table) → IsTextOf text t → ⊥
-refused text e h t s = let c = whole text t s in let z : ◌≡◌ {A = ℕ} 0 1 = cc in omega arith
+refused text e h t s = let c = whole text t s in cc
 
 that_one : (text : List ℕ) (t u : Table) → reading text ≡ Ok (rows_of u) → IsTextOf text t → rows_of t ≡ rows_of u
 that_one text t u h s = let c = whole text t s in cc

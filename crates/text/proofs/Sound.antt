@@ -19,11 +19,11 @@ use Rattle.text.proofs.Techniques.{word_back}
 
 unless_ok : {X : Type 0} (o : Option Refusal) (r : Result X Refusal) (x : X) → unless o r ≡ Ok x → (o ≡ None) × (r ≡ Ok x)
 unless_ok None r x h = (refl, h)
-unless_ok (Some e) r x h = absurd (let z : ◌≡◌ {A = ℕ} 0 1 = cc in omega arith)
+unless_ok (Some e) r x h = absurd cc
 
 then_ok : {X Y : Type 0} (o : Result X Refusal) (f : X → Result Y Refusal) (y : Y) → and_then o f ≡ Ok y → (x : X) × (o ≡ Ok x) × (f x ≡ Ok y)
 then_ok (Ok x) f y h = (x, refl, h)
-then_ok (Err e) f y h = absurd (let z : ◌≡◌ {A = ℕ} 0 1 = cc in omega arith)
+then_ok (Err e) f y h = absurd cc
 
 same_ok : {X : Type 0} (x y : X) → ◌≡◌ {A = Result X Refusal} (Ok x) (Ok y) → x ≡ y
 same_ok x y h = cc
