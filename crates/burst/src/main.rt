@@ -5,10 +5,9 @@ use engine::engine::Engine;
 use policies::by_line::ByLine;
 use service::apply::{apply, start};
 use service::log::Call;
-use std::io::Write;
 use tasks::table::Table;
 use text::read::read;
-use transcript::answer::push_answer;
+use transcript::answer::AnswerLine;
 use transcript::call::call_on;
 
 // One right job of any two for both; the camera's jobs recover from a fault.
@@ -61,9 +60,7 @@ figure 2
 // Makes a call, and prints its answer.
 fn make(rt: &HostRuntime, engine: &mut Engine<ByLine>, call: &Call) -> anyhow::Result<()> {
     let answer = apply(engine, call);
-    let mut line = Vec::new(rt.alloc());
-    push_answer(rt.alloc(), &mut line, &answer)?;
-    rt.stdout().write_all(line.as_slice())?;
+    rt.print(AnswerLine(&answer))?;
     Ok(())
 }
 
@@ -86,7 +83,7 @@ fn follow(
     }
 }
 
-fn run(rt: &HostRuntime) -> anyhow::Result<()> {
+fn main(rt: HostRuntime) -> anyhow::Result<()> {
     println!(rt;
         "A run of the engine with a table small enough to show every tick. Each call has its answer"
     )?;
@@ -96,13 +93,9 @@ fn run(rt: &HostRuntime) -> anyhow::Result<()> {
     let _ = read(&mut table, TABLE.as_bytes());
     let mut engine = start(ByLine {});
     print!(rt; "  open        ")?;
-    make(rt, &mut engine, &Call::Open { table })?;
+    make(&rt, &mut engine, &Call::Open { table })?;
     for line in SCRIPT.lines() {
-        follow(rt, &mut engine, &table, line)?;
+        follow(&rt, &mut engine, &table, line)?;
     }
     Ok(())
-}
-
-fn main(rt: HostRuntime) -> anyhow::Result<()> {
-    run(&rt)
 }

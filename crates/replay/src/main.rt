@@ -8,25 +8,22 @@ use service::replay::replay;
 use std::alloc::{AllocError, Global};
 use std::io::{Read, Write};
 use tasks::table::Table;
+use text::lines::Lines;
 use text::read::read;
 use transcript::answer::{push_answer, push_task};
 use transcript::call::call_on;
 use transcript::script::split_script;
 
-// Adds the calls of a script to the log, up to the first line that is no call; the number of that line. What stands
-// behind the last line feed is no line.
+// Adds the calls of a script to the log, up to the first line that is no call; the number of that line.
 fn add_calls(
     log: &mut Vec<Entry>,
     table: &Table,
     script: &[u8],
 ) -> Result<Option<usize>, AllocError> {
-    for (i, line) in script.split_inclusive(|byte| *byte == b'\n').enumerate() {
-        let Some(line) = line.strip_suffix(b"\n") else {
-            break;
-        };
-        match call_on(line, table) {
+    for (number, line) in (1..=usize::MAX).zip(Lines::new(script)) {
+        match call_on(line.bytes, table) {
             Some(call) => log.push(Entry::unanswered(call))?,
-            None => return Ok(Some(i + 1)),
+            None => return Ok(Some(number)),
         }
     }
     Ok(None)
@@ -34,10 +31,9 @@ fn add_calls(
 
 // How the tasks stand at the end; a shut engine tells of none.
 fn push_tasks(out: &mut Vec<u8>, engine: &Engine<ByLine>, table: &Table) -> Result<(), AllocError> {
-    let heap = *out.allocator();
     for number in 1..=table.lines().len() as u32 {
         if let (Ok((releases, ends)), Ok(figure)) = (engine.counts(number), engine.figure(number)) {
-            push_task(heap, out, number, releases, ends, figure)?;
+            push_task(out, number, releases, ends, figure)?;
         }
     }
     Ok(())
@@ -51,7 +47,7 @@ fn push_replayed(out: &mut Vec<u8>, table: &Table, script: &[u8]) -> Result<(), 
     let stray = add_calls(&mut log, table, script)?;
     let engine = replay(ByLine {}, &mut log);
     for entry in &log {
-        push_answer(heap, out, &entry.answer)?;
+        push_answer(out, &entry.answer)?;
     }
     match stray {
         Some(number) => {
@@ -72,19 +68,15 @@ fn answered(heap: Global, text: &[u8]) -> Result<Vec<u8>, AllocError> {
     let mut table = Table::new();
     match read(&mut table, lines) {
         Ok(()) => push_replayed(&mut out, &table, script)?,
-        Err(refusal) => push_answer(heap, &mut out, &Err(refusal))?,
+        Err(refusal) => push_answer(&mut out, &Err(refusal))?,
     }
     Ok(out)
 }
 
-fn run(rt: &HostRuntime) -> anyhow::Result<()> {
+fn main(rt: HostRuntime) -> anyhow::Result<()> {
     let mut text = Vec::new(rt.alloc());
     rt.stdin().read_to_end(&mut text)?;
     let answers = answered(rt.alloc(), &text)?;
     rt.stdout().write_all(&answers)?;
     Ok(())
-}
-
-fn main(rt: HostRuntime) -> anyhow::Result<()> {
-    run(&rt)
 }

@@ -32,7 +32,7 @@ fn add<'a>(table: &mut Table, text: Part<'a>) -> Result<(), Refusal>
     let read = fields.line()?;
     match table.push(read) {
         Ok(()) => Ok(()),
-        Err(Unfit::Full) => Err(Refusal::TooManyLines { place: text.place }),
+        Err(Unfit::Full) => unreachable!(),
         Err(Unfit::NameUsed) => Err(Refusal::NameUsed {
             line: fields.number,
             place: fields.name.place,

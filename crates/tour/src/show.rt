@@ -22,7 +22,7 @@ fn show_line(rt: &HostRuntime, line: &Line) -> anyhow::Result<()> {
     write(rt, line.name.bytes())?;
     let m = line.m;
     let k = line.k;
-    let technique = line.technique.word();
+    let technique = line.technique;
     println!(rt;
         ": of any {k} jobs in a row, {m} must come out right, by the technique {technique}."
     )?;

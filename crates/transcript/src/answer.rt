@@ -9,7 +9,7 @@ use std::fmt;
 
 // The line of an answer.
 #[derive(Clone, Copy)]
-struct AnswerLine<'a>(&'a Answer);
+pub struct AnswerLine<'a>(pub &'a Answer);
 
 impl fmt::Display for AnswerLine<'_> {
     ghost output = { λ l. Some (answer_line l.0.now) };
@@ -17,14 +17,8 @@ impl fmt::Display for AnswerLine<'_> {
     fn fmt<W: fmt::Write>(&self, f: &mut fmt::Formatter<W>) -> fmt::Result {
         match self.0 {
             Ok(Reply::Opened { admitted }) => f.write_str(verdict_line(*admitted)),
-            Ok(Reply::Planned { plan }) => {
-                let word = plan.word();
-                write!(f, "{word}\n")
-            }
-            Ok(Reply::Ticked { task, outcome }) => {
-                let word = outcome.word();
-                write!(f, "{task},{word}\n")
-            }
+            Ok(Reply::Planned { plan }) => write!(f, "{plan}\n"),
+            Ok(Reply::Ticked { task, outcome }) => write!(f, "{task},{outcome}\n"),
             Ok(Reply::Counted { releases, ends }) => write!(f, "{releases},{ends}\n"),
             Ok(Reply::Figured { figure }) => write!(f, "{figure}\n"),
             Err(refusal) => RefusalLine(*refusal).fmt(f),
