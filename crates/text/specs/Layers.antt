@@ -52,12 +52,11 @@ nine f =
 pub record HeadSays (f : Fields) (h : Head) : Type 0 where
   pub name : name_bytes h.name ≡ f.name.bytes.now
   pub technique : h.technique ≡ technique_of f.technique.bytes.now
-  pub right : h.m ≡ num (part_of f.m)
-  pub of : h.k ≡ num (part_of f.k)
+  pub right : h.quota.m ≡ num (part_of f.m)
+  pub of : h.quota.k ≡ num (part_of f.k)
   pub word : h.word ≡ field_word (num (part_of f.m)) (num (part_of f.k)) f.pattern.bytes.now
-  pub window : Window h.m h.k
-  pub reliable : ones h.k h.word ≡ h.m
-  pub narrow : h.word < 2 ^ h.k
+  pub reliable : ones h.quota.k h.word ≡ h.quota.m
+  pub narrow : h.word < 2 ^ h.quota.k
 
 -- what the last four fields say
 pub record TimesSay (f : Fields) (t : Times) (period : ℕ) : Type 0 where

@@ -13,6 +13,7 @@ use tasks::line::{Line, Times};
 use tasks::name::Name;
 use tasks::refusal::Refusal;
 use tasks::technique::Technique;
+use words::quota::Quota;
 
 // The fields of a line, in order, and the number of the line.
 #[derive(Clone, Copy)]
@@ -34,8 +35,7 @@ pub struct Fields<'a> {
 pub(crate) struct Head {
     pub name: Name,
     pub technique: Technique,
-    pub m: u32,
-    pub k: u32,
+    pub quota: Quota,
     pub word: u64,
 }
 
@@ -79,22 +79,15 @@ impl<'a> Fields<'a> {
         let line = self.number;
         let name = self.name.read(line)?;
         let technique = self.technique.read(line)?;
-        let m: u32 = self.m.read(line)?;
-        let k: u32 = self.k.read(line)?;
-        self.k.rule(m <= k, line)?;
-        self.k.rule(k <= 64, line)?;
+        let m = self.m.read(line)?;
+        let k = self.k.read(line)?;
+        let quota = Quota::new(m, k).ok_or(self.k.unlawful(line))?;
         let pattern: PatternValue = self.pattern.read(line)?;
-        let Some(word) = pattern.word(m, k) else {
-            return Err(Refusal::Value {
-                line,
-                place: self.pattern.place,
-            });
-        };
+        let word = pattern.word(quota).ok_or(self.pattern.unlawful(line))?;
         Ok(Head {
             name,
             technique,
-            m,
-            k,
+            quota,
             word,
         })
     }
@@ -128,6 +121,7 @@ impl<'a> Fields<'a> {
     {
         let h = self.head()?;
         let (times, period) = self.times()?;
-        Ok(Line::new(h.name, h.technique, h.m, h.k, h.word, times, period).unwrap())
+        let Quota { m, k } = h.quota;
+        Ok(Line::new(h.name, h.technique, m, k, h.word, times, period).unwrap())
     }
 }

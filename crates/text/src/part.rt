@@ -62,15 +62,22 @@ impl<'a> Part<'a> {
         T::from_bytes(bytes).ok_or(Refusal::Form { line, place })
     }
 
-    // A value against a rule of the line with a number is refused at its field.
+    // The refusal of a value that is against a rule of the line with a number.
+    pub(crate) fn unlawful(self, line: u32) -> Refusal
+        ensures { result ≡ refusal.Value line self.entry.place }
+    {
+        let place = self.place;
+        Refusal::Value { line, place }
+    }
+
+    // A value against a rule is refused at its field.
     pub(crate) fn rule(self, kept: bool, line: u32) -> Result<(), Refusal>
         ensures { Held result kept (refusal.Value line self.entry.place) (λ _. Unit {0}) }
     {
-        let place = self.place;
         if kept {
             Ok(())
         } else {
-            Err(Refusal::Value { line, place })
+            Err(self.unlawful(line))
         }
     }
 }

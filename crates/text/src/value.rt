@@ -1,7 +1,6 @@
 // The values that fields write.
 ghost use Rattle.std.specs.Prelude.{◌≡◌, ℕ, ◌^◌, ◌<◌, ◌≤◌, true, false, Bool, List, length, MatchOption};
 ghost use Rattle.words.specs.Bits.{ones};
-ghost use Rattle.words.specs.Patterns.{Window};
 ghost use Rattle.tasks.specs.Bytes.{every, is_name};
 ghost use Rattle.tasks.specs.Named.{name_bytes};
 ghost use Rattle.text.specs.Forms.{binary, is_technique, is_number, is_pattern};
@@ -12,6 +11,7 @@ use tasks::name::Name;
 use tasks::technique::Technique;
 use words::bits::count_ones;
 use words::patterns::Pattern;
+use words::quota::Quota;
 
 // A value that a field writes.
 pub trait FieldValue: Sized {
@@ -90,15 +90,14 @@ impl FieldValue for PatternValue {
 }
 
 impl PatternValue {
-    // The word with m ones of k bits that the pattern stands for; none if it has other bits.
-    pub(crate) fn word(self, m: u32, k: u32) -> Option<u64>
-        requires { Window m k }
-        ensures { (bs : List ℕ) → SaysPattern bs self → MatchOption result (fits m k bs ≡ false) (λ w. (fits m k bs ≡ true) × (w ≡ field_word m k bs) × (ones k w ≡ m) × (w < 2 ^ k)) }
+    // The word with the quota's ones and bits that the pattern stands for; none if it has other bits.
+    pub(crate) fn word(self, quota: Quota) -> Option<u64>
+        ensures { (bs : List ℕ) → SaysPattern bs self → MatchOption result (fits quota.m quota.k bs ≡ false) (λ w. (fits quota.m quota.k bs ≡ true) × (w ≡ field_word quota.m quota.k bs) × (ones quota.k w ≡ quota.m) × (w < 2 ^ quota.k)) }
     {
         match self {
-            PatternValue::Ready(pattern) => pattern.word(m, k),
+            PatternValue::Ready(pattern) => Some(pattern.word_for(quota)),
             PatternValue::Bits { count, word } => {
-                if count == k && count_ones(word, k) == m {
+                if count == quota.k && count_ones(word, quota.k) == quota.m {
                     Some(word)
                 } else {
                     None
