@@ -47,7 +47,3 @@ module _ (m : Meaning) (s : State) (task : ℕ) (x : Found) (f : Named (status_o
       let records : put task (new (was.task task)) was.task ≡ task_of (set s.tasks x.place (new held)) =
       ap (λ (t : Task). put task (new t) was.task) (sym at) ∙ sym (task_set s.tasks task x.place (new held) f.line.0.0 f.place room) in
       subst (Release m was task (Ok p)) (status_eq (record { lines = was.lines; figures = was.figures; ticks = was.ticks; task = put task (new (was.task task)) was.task }) _ refl refl refl records) step
-
--- the record of a task just released is fair
-pub released_fair : (now : ℕ) (l : Line) (t : Task) (p : Plan) → Fair now t → Rested now l t → t.job ≡ None → Fair now (released t now (Some (begun l p)))
-released_fair now l t p fair rested closed = grind (arith, l.ordered)

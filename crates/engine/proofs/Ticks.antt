@@ -33,9 +33,6 @@ module _ (s : State) (ls : List Line) (n : ℕ) (count : n ≡ length ls) where
   among : (k : ℕ) → 1 ≤ k → k ≤ n → task_of s.tasks k ≡ get_or (take n s.tasks) (k - 1) unused
   among k pos below = grind (arith, common_steps)
 
-  pub all_quiet : ((k : ℕ) → k < length (take n s.tasks) → (get_or (take n s.tasks) k unused).job ≡ None) → Quiet (status_of s) ls
-  all_quiet closed k is = grind (arith, among k, closed (k - 1), get_or_past)
-
   pub first_turn : (place : ℕ) (l : Line) (o : OpenJob) → FirstOpen (take n s.tasks) place o → l ≡ get_or ls place l → Turn (status_of s) ls (place + 1) l o
   first_turn place l o f line = record {
     line = grind (arith, f.within, length-take);

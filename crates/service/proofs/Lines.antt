@@ -10,9 +10,6 @@ use Rattle.engine.specs.Status.{put}
 pub at_place : (ls : List Line) (i : ℕ) (l d : Line) → Numbered ls (suc i) l → (i < length ls) × (l ≡ get_or ls i d)
 at_place ls i l d named = grind (arith, common_steps)
 
-pub by_place_number : (ls : List Line) (i : ℕ) (d : Line) → i < length ls → Numbered ls (suc i) (get_or ls i d)
-by_place_number ls i d inside = grind (arith, common_steps)
-
 -- some line, where there is one
 pub some_line : (ls : List Line) (n : ℕ) → IsLine ls n → Line
 some_line [] n h = absurd (omega (arith, h.0, h.1))

@@ -1,3 +1,2 @@
-pub mod Everys
 pub mod Growing
 pub mod TwinLemmas

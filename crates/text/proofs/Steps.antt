@@ -5,7 +5,7 @@ use Rattle.std.proofs.lemmas.Bool.{false≢true, and_parts, leb-true, le-leb, ne
 use Rattle.std.proofs.lemmas.Bool.Decides.{nat_tests}
 use Rattle.std.proofs.lemmas.Str.Parse.{IsNumeralModel, numerals_by_fold, digits_value_short}
 use Rattle.tasks.specs.Bytes.{every, digit}
-use Rattle.tasks.proofs.Everys.{every_at}
+use Rattle.std.proofs.lemmas.List.Recursion.{and_at}
 use Rattle.text.specs.Cuts.{last_byte}
 use Rattle.text.specs.Forms.{is_number, no_leading_zero}
 use Rattle.text.specs.Values.{number_after, number_of}
@@ -41,7 +41,7 @@ number_grows n (d ∷ ds) = omega (arith, number_grows (n * 10 + (d - 48)) ds)
 pub number_some : (ds : List ℕ) → is_number ds ≡ true → 1 ≤ number_of ds
 number_some [] e = absurd (false≢true e)
 number_some (d ∷ ds) e =
-    let dig : digit d ≡ true = every_at digit (d ∷ ds) 0 (number_digits (d ∷ ds) e) (omega arith) in
+    let dig : digit d ≡ true = and_at (every digit) digit refl (λ _ _. refl) (d ∷ ds) 0 0 (omega arith) (number_digits (d ∷ ds) e) in
     let z = number_first (d ∷ ds) e in
     let big : 1 ≤ d - 48 = grind (arith, nat_tests) in
     omega (arith, number_grows (0 * 10 + (d - 48)) ds)

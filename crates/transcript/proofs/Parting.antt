@@ -64,9 +64,6 @@ pub record Left (text : List ℕ) (lines : List Placed) : Type 0 where
   pub whole : WholeLines (take place text)
   pub later : (table script : List ℕ) → Parts text table script → place ≤ length table
 
-pub all_left : (text : List ℕ) (lines : List Placed) → lines ≡ closed 10 0 text → Left text lines
-all_left text lines e = record { place = 0; within = omega arith; are = e; whole = tt; later = λ table script p. omega arith }
-
 -- ---- a line
 
 module _ (text : List ℕ) (q : Placed) (ls : List Placed) (l : Left text (q ∷ ls)) where

@@ -105,11 +105,6 @@ e_ones m k window =
 
 -- ---- both
 
-pub pattern_small : (p : Pattern) (m k j : ℕ) → pattern_bit p m k j ≤ 1
-pattern_small R m k j = cond_both (ltb j (k - m)) 0 1 (λ b. b ≤ 1) (λ _. omega arith) (λ _. omega arith)
-pattern_small E m k j =
-    cond_both (eqb (k - m) 0) 1 (cond (e_zero (k - m) k j) 0 1) (λ b. b ≤ 1) (λ _. omega arith) (λ _. cond_both (e_zero (k - m) k j) 0 1 (λ b. b ≤ 1) (λ _. omega arith) (λ _. omega arith))
-
 pattern_ones : (p : Pattern) (m k : ℕ) → Window m k → sum_below (pattern_bit p m k) k ≡ m
 pattern_ones R m k window = omega (arith, r_count m k k, window)
 pattern_ones E m k window = e_ones m k window

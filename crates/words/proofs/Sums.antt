@@ -8,14 +8,6 @@ use Rattle.words.specs.Sums.{sum_below, row}
 
 -- ---- sums
 
-pub sum_none : (f : ℕ → ℕ) → sum_below f 0 ≡ 0
-unfolding sum_below
-sum_none f = refl
-
-pub sum_more : (f : ℕ → ℕ) (n : ℕ) → sum_below f (n + 1) ≡ sum_below f n + f n
-unfolding sum_below
-sum_more f n = rw add-one
-
 pub sum_cong_below : (f g : ℕ → ℕ) (n : ℕ) → ((x : ℕ) → x < n → f x ≡ g x) → sum_below f n ≡ sum_below g n
 unfolding sum_below
 sum_cong_below f g zero h = refl
