@@ -23,6 +23,7 @@ fn add_figure_line(
 ) -> Result<(), AllocError>
     ensures { OnOk result (out.new.items ≡ out.old.items ++ figure_line number (name_bytes name.now) figure) }
 {
+    // In three pieces, since a name is bytes and no text.
     let heap = *out.allocator();
     let head = format!(in heap; "{number},")?;
     let tail = format!(in heap; ",{figure}\n")?;

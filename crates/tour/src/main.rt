@@ -21,6 +21,7 @@ fn refused(rt: &HostRuntime, refusal: Refusal) -> anyhow::Result<()> {
 
 fn main(rt: HostRuntime) -> anyhow::Result<()> {
     let mut text = Vec::new(rt.alloc());
+    // `as`: a usize has no `From` to u64.
     rt.stdin().take(LONGEST as u64 + 1).read_to_end(&mut text)?;
     println!(rt; "From the bytes of a task table to its verdict, stage by stage.")?;
     fields::stage(&rt, text.as_slice())?;
