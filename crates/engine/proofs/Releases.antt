@@ -9,7 +9,6 @@ use Rattle.engine.specs.declared.questions.Found.{Found}
 use Rattle.engine.specs.declared.state.Task.{Task}
 use Rattle.engine.specs.declared.state.State.{State}
 use Rattle.engine.specs.Jobs.{unused, begun, released}
-use Rattle.engine.specs.Kept.{Fair}
 use Rattle.engine.specs.Status.{Status, task_of, put, status_of}
 use Rattle.engine.specs.Steps.{Rested, Release, early, still_open, starts, of_line}
 use Rattle.engine.proofs.Tasks.{task_set}

@@ -1,7 +1,7 @@
 -- A tick, told by the records of the tasks at their places.
 use Rattle.std.proofs.Common.{◌≡◌, ℕ, zero, suc, ◌+◌, ◌-◌, ◌<◌, ◌≤◌, true, false, not, ◌⊎◌, List, [], ◌∷◌, length, get_or, take, set, None, Some, Ok, Err, Option, sym, refl, ap, ◌∙◌, subst, inl, inr, ⊎_elim, arith}
 use denote.Enum.Bare.{sameb}
-use Rattle.std.proofs.lemmas.List.{get_or_past, length-take}
+use Rattle.std.proofs.lemmas.List.{length-take}
 use Rattle.std.proofs.lemmas.Bool.{cases_eq}
 use Rattle.std.proofs.lemmas.Bool.Decides.{nat_tests}
 use Rattle.std.proofs.lemmas.Grind.{common_steps}
@@ -21,7 +21,7 @@ use Rattle.engine.specs.Jobs.{unused, heard, task_after}
 use Rattle.engine.specs.Words.{said_by}
 use Rattle.engine.specs.Kept.{Fair}
 use Rattle.engine.specs.Status.{Status, open_lines, task_of, put, status_of, most_ticks}
-use Rattle.engine.specs.Steps.{Quiet, Turn, later, Tick, no_job, unheard, runs, ticks}
+use Rattle.engine.specs.Steps.{Turn, later, Tick, no_job, unheard, runs, ticks}
 use Rattle.engine.specs.Lookups.{FirstOpen}
 use Rattle.engine.proofs.Tasks.{task_at, task_set}
 use Rattle.engine.proofs.Found.{status_eq}

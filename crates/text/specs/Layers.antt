@@ -1,7 +1,6 @@
 -- What the layers of the reader answer: field, line, table.
 use Rattle.std.specs.Prelude.{◌≡◌, ℕ, ◌+◌, ◌^◌, ◌<◌, ◌≤◌, Bool, true, false, List, [], ◌∷◌, length, drop, Some, None, Result, MatchResult}
 use Rattle.words.specs.Bits.{ones}
-use Rattle.words.specs.Patterns.{Window}
 use Rattle.tasks.specs.Named.{name_bytes}
 use Rattle.tasks.specs.declared.line.Times.{Times}
 use Rattle.tasks.specs.declared.refusal.Refusal.{Refusal}

@@ -1,5 +1,5 @@
 -- Lemmas on sums below a number, and on rows that go round.
-use Rattle.std.proofs.Common.{◌≡◌, ℕ, zero, suc, ◌+◌, ◌-◌, ◌%◌, ◌<◌, ◌≤◌, sym, refl, ap, ◌∙◌, ⊎_elim, add-zero, add_assoc, add-suc, mod-eq_of_lt, add_comm, zero-add, add-one, map, sum, arith}
+use Rattle.std.proofs.Common.{◌≡◌, ℕ, zero, suc, ◌+◌, ◌-◌, ◌%◌, ◌<◌, ◌≤◌, sym, refl, ap, ◌∙◌, ⊎_elim, add-zero, add_assoc, add-suc, mod-eq_of_lt, add_comm, zero-add, map, sum, arith}
 use native.Mathlib.Nat.{mod-add-mod, add-mod_right}
 use Rattle.std.specs.List.{range_with_len}
 use Rattle.std.proofs.lemmas.Bool.{cases_lt}
