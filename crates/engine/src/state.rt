@@ -31,6 +31,8 @@ pub struct Setup {
     pub figures: [u32; 32],
 }
 
+// The records stand beside the table's lines, in an array of their own: fixed memory is the rule here, and a tick writes
+// one record and leaves the setup alone.
 // No `impl Model`: what clauses see of a state, its status, has the records as a function of the tasks' numbers, and a
 // model's value can hold no function.
 #[derive(Clone, Copy)]

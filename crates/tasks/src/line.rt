@@ -15,7 +15,8 @@ pub struct Times {
 }
 
 // A task: its name and technique, that m of any k jobs in a row are to come out right, the word of k bits
-// with m ones that a technique may go by, the times of its versions, and its period.
+// with m ones that a technique may go by, the times of its versions, and its period. m and k are fields by themselves:
+// definitions read them one by one, and `l.quota.k` would say no more than `l.k`.
 #[derive(Clone, Copy)]
 pub struct Line {
     pub name: Name,

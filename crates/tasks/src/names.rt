@@ -36,7 +36,7 @@ impl Name {
     }
 }
 
-// Two names are equal if they are the same bytes.
+// Two names are equal if they are the same bytes. By hand: a derive would compare what stands behind the bytes too.
 impl PartialEq for Name {
     ghost eq = { λ a b. bytes_eq (name_bytes a) (name_bytes b) };
 

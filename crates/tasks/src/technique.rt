@@ -33,7 +33,7 @@ impl Technique {
         }
     }
 
-    // The technique that a word names.
+    // The technique that a word names. An Option and no `TryFrom`: why a word is refused, only its reader can say.
     pub fn named(word: &[u8]) -> Option<Technique>
         ensures { MatchOption result ((t : Technique) → word.now ≢ technique_word t) (λ t. word.now ≡ technique_word t) }
     {
