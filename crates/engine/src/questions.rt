@@ -25,6 +25,7 @@ impl<P: Policy> Engine<P> {
     {
         let setup = self.state.setup.as_ref().ok_or(Refusal::Shut)?;
         let line = *setup.table.line(task)?;
+        // `as`: a u32 has no `From` to usize.
         let place = task as usize - 1;
         Ok(Found {
             place,

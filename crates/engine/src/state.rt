@@ -12,7 +12,7 @@ pub struct OpenJob {
     pub left: u32,
 }
 
-// The record of a task. `last` is the number of ticks accepted before its last release, so that a tick changes one
+// The record of a task. `last`, which counts only once there was a release, is the number of ticks accepted before its last release, so that a tick changes one
 // record at most.
 #[derive(Clone, Copy)]
 pub struct Task {
@@ -24,15 +24,16 @@ pub struct Task {
     pub job: Option<OpenJob>,
 }
 
-// What an opening puts in place.
+// What an opening puts in place. The figures are beside the table, as they are worked out and told: a table is read, compared and
+// kept by itself, and has no place for what a policy makes of it.
 #[derive(Clone, Copy)]
 pub struct Setup {
     pub table: Table,
     pub figures: [u32; 32],
 }
 
-// The records stand beside the table's lines, in an array of their own: fixed memory is the rule here, and a tick writes
-// one record and leaves the setup alone.
+// The records stand in an array beside the setup, and not each in a line of it: either is fixed memory, and so a tick, which
+// writes one record, leaves the table and its rules alone.
 // No `impl Model`: what clauses see of a state, its status, has the records as a function of the tasks' numbers, and a
 // model's value can hold no function.
 #[derive(Clone, Copy)]

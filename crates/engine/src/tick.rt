@@ -69,8 +69,8 @@ impl<P: Policy> Engine<P> {
     }
 
     // Gives a tick with a word to the open job with the smallest task number, and tells the task and how the tick came
-    // out; with no open job the pair is 0 and idle, as it is told. The word is any number, since a narrower type would
-    // leave it to the caller to refuse one.
+    // out; with no open job the pair is 0 and idle, since numbers from 1 name tasks wherever answers are printed and an Option
+    // would be taken apart for that alone. The word is any number, since a narrower type would leave it to the caller to refuse one.
     #[tactic(auto, using(crate::proofs::Sole::tick_sole))]
     pub fn tick(&mut self, word: u32) -> Result<(u32, Outcome), Refusal>
         ensures step { Tick (meaning P.Policy self.old.policy) (status_of self.old.state) word result (status_of self.new.state) }

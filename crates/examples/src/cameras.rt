@@ -48,10 +48,7 @@ fn refused(text: &[u8]) -> Option<(u32, u32, usize)>
     ensures { (e : Refusal) → reading text.now ≡ Err e → result ≡ Some (told e) }
 {
     let mut table = Table::new();
-    match read(&mut table, text) {
-        Ok(()) => None,
-        Err(refusal) => Some((refusal.number(), refusal.line(), refusal.place())),
-    }
+    read(&mut table, text).err().map(|refusal| refusal.told())
 }
 
 // With 40 for the arm's r, and of no byte.

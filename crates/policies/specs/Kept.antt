@@ -63,22 +63,22 @@ data Plans : BitPlans → Type 0 where
 -- what one allowed ending does: the mark stays, the job is right and costs no more than a zero; or the mark
 -- goes on, the job is right if the bit is 1 and costs no more than the bit
 data Step (l : Line) (p : BitPlans) (b : ℕ) (e : Ending) : Type 0 where
-  stays : moves (plan_of_bit p b) e ≡ false → 1 ≤ right e → cost l (plan_of_bit p b) e ≤ worst l p.on_zero → Step l p b e
-  goes : moves (plan_of_bit p b) e ≡ true → b ≤ right e → cost l (plan_of_bit p b) e ≤ cost_of_bit (worst l p.on_zero) (worst l p.on_one) b → Step l p b e
+  waits : moves (plan_of_bit p b) e ≡ false → 1 ≤ right e → cost l (plan_of_bit p b) e ≤ worst l p.on_zero → Step l p b e
+  goes_on : moves (plan_of_bit p b) e ≡ true → b ≤ right e → cost l (plan_of_bit p b) e ≤ cost_of_bit (worst l p.on_zero) (worst l p.on_one) b → Step l p b e
 
 step : (l : Line) {p : BitPlans} → Plans p → (b : ℕ) {e : Ending} → b ≤ 1 → Allows (plan_of_bit p b) e → Step l p b e
-step l sre zero h bare_blind = goes refl (omega arith) (omega arith)
-step l sre (suc b) h correct_sure = goes refl (omega arith) (omega arith)
-step l sdr zero h bare_blind = goes refl (omega arith) (omega arith)
-step l sdr (suc b) h recover_clean = goes refl (omega arith) (omega arith)
-step l sdr (suc b) h recover_sure = goes refl (omega arith) (omega arith)
-step l dre zero h detect_clean = stays refl (omega arith) (omega arith)
-step l dre zero h detect_bad = goes refl (omega arith) (omega arith)
-step l dre (suc b) h correct_sure = goes refl (omega arith) (omega arith)
-step l ddr zero h detect_clean = stays refl (omega arith) (omega arith)
-step l ddr zero h detect_bad = goes refl (omega arith) (omega arith)
-step l ddr (suc b) h recover_clean = goes refl (omega arith) (omega arith)
-step l ddr (suc b) h recover_sure = goes refl (omega arith) (omega arith)
+step l sre zero h bare_blind = goes_on refl (omega arith) (omega arith)
+step l sre (suc b) h correct_sure = goes_on refl (omega arith) (omega arith)
+step l sdr zero h bare_blind = goes_on refl (omega arith) (omega arith)
+step l sdr (suc b) h recover_clean = goes_on refl (omega arith) (omega arith)
+step l sdr (suc b) h recover_sure = goes_on refl (omega arith) (omega arith)
+step l dre zero h detect_clean = waits refl (omega arith) (omega arith)
+step l dre zero h detect_bad = goes_on refl (omega arith) (omega arith)
+step l dre (suc b) h correct_sure = goes_on refl (omega arith) (omega arith)
+step l ddr zero h detect_clean = waits refl (omega arith) (omega arith)
+step l ddr zero h detect_bad = goes_on refl (omega arith) (omega arith)
+step l ddr (suc b) h recover_clean = goes_on refl (omega arith) (omega arith)
+step l ddr (suc b) h recover_sure = goes_on refl (omega arith) (omega arith)
 
 -- a zero costs least
 least : (l : Line) {p : BitPlans} → Plans p → (b : ℕ) → worst l p.on_zero ≤ cost_of_bit (worst l p.on_zero) (worst l p.on_one) b
@@ -101,11 +101,11 @@ module _ (l : Line) {p : BitPlans} (plans : Plans p) (s : ℕ) where
   some : 0 < l.k
   some = omega (arith, l.window)
 
-  unmoved : (q : ℕ) (e : Ending) → moves (pattern_plan p s l q) e ≡ false → pattern_next p s l q e ≡ q
-  unmoved q e h = ap (λ t. cond t ((q + 1) % l.k) q) h
+  stays : (q : ℕ) (e : Ending) → moves (pattern_plan p s l q) e ≡ false → pattern_next p s l q e ≡ q
+  stays q e h = ap (λ t. cond t ((q + 1) % l.k) q) h
 
-  moved : (q : ℕ) (e : Ending) → moves (pattern_plan p s l q) e ≡ true → pattern_next p s l q e ≡ (q + 1) % l.k
-  moved q e h = ap (λ t. cond t ((q + 1) % l.k) q) h
+  goes : (q : ℕ) (e : Ending) → moves (pattern_plan p s l q) e ≡ true → pattern_next p s l q e ≡ (q + 1) % l.k
+  goes q e h = ap (λ t. cond t ((q + 1) % l.k) q) h
 
   -- the row from the mark after a move is the row from the next place
   on : (f : ℕ → ℕ) (q n : ℕ) → row f l.k ((q + 1) % l.k) n ≡ row f l.k (suc q) n
@@ -119,8 +119,8 @@ module _ (l : Line) {p : BitPlans} (plans : Plans p) (s : ℕ) where
       let n = length es in
       let rest = rights_row (pattern_next p s l q e) es r.1 in
       elim (step l plans (turned_bit l.word l.k s (q % l.k)) (small (q % l.k)) r.0) [
-        | stays m right cost ↦ omega (arith, rest, ap (λ i. row b l.k i n) (unmoved q e m), row_last b l.k q n, small ((q + n) % l.k), right)
-        | goes m right cost ↦ omega (arith, rest, ap (λ i. row b l.k i n) (moved q e m), on b q n, row_first b l.k q n, right)
+        | waits m right cost ↦ omega (arith, rest, ap (λ i. row b l.k i n) (stays q e m), row_last b l.k q n, small ((q + n) % l.k), right)
+        | goes_on m right cost ↦ omega (arith, rest, ap (λ i. row b l.k i n) (goes q e m), on b q n, row_first b l.k q n, right)
       ]
 
   -- it costs no more than the bits in a row
@@ -131,8 +131,8 @@ module _ (l : Line) {p : BitPlans} (plans : Plans p) (s : ℕ) where
       let n = length es in
       let rest = costs_row (pattern_next p s l q e) es r.1 in
       elim (step l plans (turned_bit l.word l.k s (q % l.k)) (small (q % l.k)) r.0) [
-        | stays m right cost ↦ omega (arith, rest, ap (λ i. row c l.k i n) (unmoved q e m), row_last c l.k q n, least l plans (turned_bit l.word l.k s ((q + n) % l.k)), cost)
-        | goes m right cost ↦ omega (arith, rest, ap (λ i. row c l.k i n) (moved q e m), on c q n, row_first c l.k q n, cost)
+        | waits m right cost ↦ omega (arith, rest, ap (λ i. row c l.k i n) (stays q e m), row_last c l.k q n, least l plans (turned_bit l.word l.k s ((q + n) % l.k)), cost)
+        | goes_on m right cost ↦ omega (arith, rest, ap (λ i. row c l.k i n) (goes q e m), on c q n, row_first c l.k q n, cost)
       ]
 
   pattern_keeps : Keeps l (pattern_plan p s l) (pattern_next p s l) (pattern_demand p l)

@@ -1,4 +1,5 @@
-// The policy that uses on each line the technique that the line names.
+// The policy that uses on each line the technique that the line names. An impl beside that of `Technique`, to which it hands
+// each question: the two differ in where the technique comes from, and nothing stands twice.
 ghost use Rattle.tasks.specs.declared.line.Line.{Line};
 ghost use Rattle.policies.specs.Techniques.{technique_takes, technique_plan, technique_next, technique_demand};
 ghost use Rattle.policies.specs.Kept.{technique_keeps};

@@ -46,7 +46,7 @@ impl BitCosts {
     }
 
     // The greatest sum of n consecutive bits' costs, going round a line's word, n less than k: the window slides,
-    // and each start's sum is made of the one before, which a chain of an iterator could not tell.
+    // and each start's sum is made of the one before. A `for`: a fold would carry the pair of both sums and read no plainer.
     pub(crate) fn greatest_window(self, line: &Line, n: u32) -> u64
         requires { n < line.now.k }
         ensures is { result ≡ greatest_row (cost_at self.zero self.one line.now.word) line.now.k n }

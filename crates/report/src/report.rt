@@ -23,7 +23,7 @@ fn add_figure_line(
 ) -> Result<(), AllocError>
     ensures { OnOk result (out.new.items ≡ out.old.items ++ figure_line number (name_bytes name.now) figure) }
 {
-    // In three pieces, since a name is bytes and no text.
+    // In three pieces, since names are bytes here and no text, and only text has `Display`.
     let heap = *out.allocator();
     let head = format!(in heap; "{number},")?;
     let tail = format!(in heap; ",{figure}\n")?;
@@ -58,9 +58,7 @@ impl fmt::Display for RefusalLine {
     ghost output = { λ l. Some (refusal_line l.0) };
 
     fn fmt<W: fmt::Write>(&self, f: &mut fmt::Formatter<W>) -> fmt::Result {
-        let number = self.0.number();
-        let line = self.0.line();
-        let place = self.0.place();
+        let (number, line, place) = self.0.told();
         write!(f, "refused,{number},{line},{place}\n")
     }
 }

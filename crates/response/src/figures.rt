@@ -59,7 +59,7 @@ impl<P: Policy> Accepted<'_, P> {
 
 // Fills 32 places with the figures of a table's lines, and tells whether the table is admitted: no figure of its
 // lines is 0. A table without lines is refused, and one with a line that the policy declines; all places are then 0.
-// Numbers in an array, and 0 for none, since figures are told as numbers, 0 among them, and kept in fixed memory.
+// The caller lends the places, and has zeros in them after a refusal. 0 and no Option says that no time passes: so figures are told.
 pub fn figures<P: Policy>(
     policy: &P,
     table: &Table,

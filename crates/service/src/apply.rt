@@ -10,7 +10,7 @@ use crate::log::*;
 use engine::engine::Engine;
 use policies::policy::Policy;
 
-// Makes the call.
+// Makes the call. A `match`, since calls are a closed set that a log keeps as values: closures could not be kept or compared.
 fn made<P: Policy>(engine: &mut Engine<P>, call: &Call) -> Answer
     ensures step { Answers (meaning P.Policy engine.old.policy) (status_of engine.old.state) call.now result (status_of engine.new.state) }
     ensures policy { engine.new.policy ≡ engine.old.policy }

@@ -11,6 +11,7 @@ pub enum Call {
     // the table itself, so that a log may outlive the tables that it was made with
     Open { table: Table },
     Release { task: u32 },
+    // any number, since what is no word is refused
     Tick { word: u32 },
     Counts { task: u32 },
     Figure { task: u32 },
@@ -23,7 +24,8 @@ pub enum Reply {
     Opened { admitted: bool },
     // a release: the plan of the job
     Planned { plan: Plan },
-    // a tick: the task that got it, and how it came out
+    // a tick: the task that got it, and how it came out; the task is 0 where none did, as the answer is printed, and an
+    // Option would be taken apart for that alone
     Ticked { task: u32, outcome: Outcome },
     // how often the task was released, and how many of its jobs ended
     Counted { releases: u64, ends: u64 },

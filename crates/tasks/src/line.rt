@@ -15,8 +15,8 @@ pub struct Times {
 }
 
 // A task: its name and technique, that m of any k jobs in a row are to come out right, the word of k bits
-// with m ones that a technique may go by, the times of its versions, and its period. m and k are fields by themselves:
-// definitions read them one by one, and `l.quota.k` would say no more than `l.k`.
+// with m ones that a technique may go by, the times of its versions, and its period. m and k are two fields and no `Quota`: they
+// are read one by one nearly everywhere, and a path through the quota would be longer and say no more.
 #[derive(Clone, Copy)]
 pub struct Line {
     pub name: Name,

@@ -42,7 +42,7 @@ pub enum Refusal {
 
 impl Refusal {
     // Its number, and the line and the place in the text, 0 where the cause has none.
-    fn told(self) -> (u32, u32, usize)
+    pub fn told(self) -> (u32, u32, usize)
         ensures { result ≡ told self }
     {
         match self {

@@ -70,6 +70,7 @@ impl Table {
     {
         number
             .checked_sub(1)
+            // `as`: a u32 has no `From` to usize.
             .and_then(|place| self.lines().get(place as usize))
             .ok_or(Refusal::NoSuchTask)
     }

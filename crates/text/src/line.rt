@@ -122,6 +122,7 @@ impl<'a> Fields<'a> {
         let h = self.head()?;
         let (times, period) = self.times()?;
         let Quota { m, k } = h.quota;
+        // The rules that `new` tests were kept above, each at its field, and it is proved that there is a line.
         Ok(Line::new(h.name, h.technique, m, k, h.word, times, period).unwrap())
     }
 }

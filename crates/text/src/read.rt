@@ -24,7 +24,8 @@ fn add<'a>(table: &mut Table, text: Part<'a>) -> Result<(), Refusal>
     requires { Within text }
     ensures { MatchResult result (λ _. with_line (rows_of table.old) (part_of text.entry) ≡ Ok (rows_of table.new)) (λ e. with_line (rows_of table.old) (part_of text.entry) ≡ Err e) }
 {
-    // Before the line's own faults, so not left to `push`, which tests it again.
+    // The number of lines is tested before the line's own faults, and so not left to `push`, which tests it again and then
+    // cannot find the table full.
     let count = table.lines().len();
     if count >= MOST {
         return Err(Refusal::TooManyLines { place: text.place });

@@ -12,9 +12,7 @@ use tasks::table::Table;
 use text::read::{LONGEST, read};
 
 fn refused(rt: &HostRuntime, refusal: Refusal) -> anyhow::Result<()> {
-    let number = refusal.number();
-    let line = refusal.line();
-    let place = refusal.place();
+    let (number, line, place) = refusal.told();
     println!(rt; "The table is refused: {number}, line {line}, place {place}.")?;
     Ok(())
 }

@@ -2,6 +2,7 @@
 use crate::fields::write;
 use policies::by_line::ByLine;
 use policies::policy::Policy;
+use report::report::verdict_line;
 use response::figures::figures;
 use tasks::line::Line;
 use tasks::table::Table;
@@ -53,7 +54,7 @@ fn show_verdict(rt: &HostRuntime, table: &Table) -> anyhow::Result<()> {
                 write(rt, line.name.bytes())?;
                 println!(rt; " has the figure {figure}")?;
             }
-            rt.println(if admitted { "admitted" } else { "rejected" })?;
+            rt.print(verdict_line(admitted))?;
         }
         Err(_) => println!(rt; "a line is declined")?,
     }

@@ -1,2 +1,3 @@
+pub mod Compared
 pub mod Saying
 pub mod Parting

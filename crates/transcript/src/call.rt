@@ -36,7 +36,8 @@ pub fn call_on(line: &[u8], table: &Table) -> Option<Call>
         return Some(Call::Open { table: *table });
     }
     let (word, number) = word_and_number(line)?;
-    // A chain of tests: at a match on byte strings a goal is left for each byte that may differ.
+    // A chain of tests: a match on byte strings proves where a word says one value, but here, where no other call may be said
+    // either, it left a goal for each byte that may differ.
     if word == b"release".as_slice() {
         Some(Call::Release { task: number })
     } else if word == b"tick".as_slice() {

@@ -3,10 +3,10 @@ use Rattle.std.proofs.Common.{◌≡◌, ℕ, zero, suc, ◌+◌, ◌-◌, ◌%�
 use native.Mathlib.Nat.{mod-add-mod, add-mod-mod, mod_self}
 use Rattle.std.proofs.lemmas.Bool.{cases_lt, cases_Bool, both_ways, and_parts, and_cases, and_left, and_right, and_from, eqb-true, eqb-false, eq-eqb, ne_eqb}
 use Rattle.words.specs.Sums.{row}
-use Rattle.words.specs.Bits.{bit, ones}
+use Rattle.words.specs.Bits.{bit, ones, word_of}
 use Rattle.words.specs.Turns.{before, falls_at, turn_of, Rearranges, turned_bit, Turned}
 use Rattle.words.proofs.Sums.{row_round, sum_above, sum_some, zeros_and_ones, sum_of_ones, sum_cong_below, sum_turned}
-use Rattle.words.proofs.Words.{word_is}
+use Rattle.words.proofs.Words.{word_is, word_made}
 use Rattle.words.proofs.Searches.{first_passes, first_least, first_missing, first_within}
 
 -- the place before the next one is the place itself
@@ -97,3 +97,10 @@ module _ (w k s : ℕ) where
   -- there is one such word
   pub turned_same : (u v : ℕ) → Turned w k s u → Turned w k s v → u ≡ v
   turned_same u v t t' = word_is (turned_bit w k s) k u t.narrow t.bits ∙ sym (word_is (turned_bit w k s) k v t'.narrow t'.bits)
+
+-- the word that the turned bits make is the word turned
+pub turned_word : (w k s : ℕ) → Turned w k s (word_of (turned_bit w k s) k)
+turned_word w k s =
+    let made = word_made (turned_bit w k s) (λ j. omega arith) k in
+    let v = word_of (turned_bit w k s) k in
+    record { bits = made.1; reliable = sum_cong_below (bit v) (turned_bit w k s) k made.1 ∙ sum_turned (bit w) k s; narrow = made.0 }

@@ -1,5 +1,5 @@
 -- Lemmas on the bits of a word, and on a word made bit by bit.
-use Rattle.std.proofs.Common.{◌≡◌, ℕ, zero, suc, ◌+◌, ◌-◌, ◌*◌, ◌/◌, ◌%◌, ◌^◌, ◌<◌, ◌≤◌, sym, ap, ◌∙◌, mul-le-mul_right, mul_assoc, subst, below_more, mod-lt, mod-eq_of_lt, div-add-mod', arith, pow_mono}
+use Rattle.std.proofs.Common.{◌≡◌, ℕ, zero, suc, ◌+◌, ◌-◌, ◌*◌, ◌/◌, ◌%◌, ◌^◌, ◌<◌, ◌≤◌, refl, sym, ap, ◌∙◌, mul-le-mul_right, mul_assoc, subst, below_more, mod-lt, mod-eq_of_lt, div-add-mod', arith, pow_mono}
 use native.Mathlib.Nat.{pow-succ', div-eq_of_lt, add-mul-div_right, add-mul-mod_self_right, div-lt_iff_lt-mul}
 use Rattle.std.proofs.lemmas.Nat.{pow_pos, pow-add}
 use Rattle.words.specs.Sums.{sum_below}
@@ -58,3 +58,14 @@ word_is f (suc n) w narrow bits =
     let parts : w ≡ v + b * 2 ^ n = omega (arith, div-add-mod' w (2 ^ n), ap (λ x. x * 2 ^ n) one) in
     let low : v ≡ word_of f n = word_is f n v (mod-lt w (pow_pos n)) (λ j h. sym (bit_low v n b j h) ∙ ap (λ x. bit x j) (sym parts) ∙ bits j (omega arith)) in
     omega (arith, low, parts, ap (λ x. x * 2 ^ n) (bits n (omega arith)))
+
+-- a word made of bits has them, and nothing above
+pub word_made : (f : ℕ → ℕ) → ((j : ℕ) → f j ≤ 1) → (n : ℕ) → (word_of f n < 2 ^ n) × ((j : ℕ) → j < n → bit (word_of f n) j ≡ f j)
+unfolding word_of sum_below
+word_made f small zero = (omega arith, λ j h. absurd (omega arith))
+word_made f small (suc n) =
+    let p = word_made f small n in
+    let e : suc n ≡ n + 1 = omega arith in (
+      omega (arith, narrow_more (word_of f n) n (f n) p.0 (small n), ap (λ k. 2 ^ k) e),
+      λ j h. bits_more (λ i x. x ≡ f i) (word_of f n) n (f n) p.0 (small n) p.1 refl j (omega arith),
+    )

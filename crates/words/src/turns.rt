@@ -1,5 +1,5 @@
-// A word turned left, going round its k bits, and the turn that rearranges it. The word and k stay two parameters: every
-// number is answered for each, so a struct of the two would keep no fact, and whoever calls has them apart.
+// A word turned left, going round its k bits, and the turn that rearranges it. The word and k are two parameters and no struct:
+// each may be any number, so a struct would keep no fact of them, and whoever calls has them apart.
 ghost use Rattle.std.specs.Prelude.{◌≡◌, ℕ, ◌<◌, ◌≤◌, MatchOption};
 ghost use Rattle.words.specs.Turns.{falls_at, turn_of, Rearranges, Turned};
 

@@ -1,19 +1,9 @@
-use Rattle.std.proofs.Common.{◌≡◌, true, false, eqb, List, ℕ, codes, refl, sym, ◌∙◌}
-use lib.Pointwise.{pointwise}
-use Rattle.std.proofs.lemmas.Slice.Eq.{slice_eq-Decides}
-use Rattle.std.proofs.lemmas.Bool.{false≢true}
-use Rattle.std.proofs.lemmas.Bool.Decides.{Decides-eqb}
+use Rattle.std.proofs.Common.{codes, refl}
 use Rattle.service.specs.declared.log.Call.TheVariants.{Release, Tick, Counts, Figure}
 use Rattle.transcript.specs.Calls.{a_release, a_tick, the_counts, the_figure}
+use Rattle.transcript.proofs.Compared.{same, apart}
 use Rattle.transcript.proofs.Saying.{says_open, says_numbered, says_none, same_word}
 use Rattle.transcript.proofs.call.call_on.Goals as goal
-
--- bytes compared with those of a word
-same : (bs word other : List ℕ) → true ≡ pointwise eqb bs word → word ≡ other → bs ≡ other
-same bs word other e w = (slice_eq-Decides Decides-eqb bs word true e).0 refl ∙ w
-
-apart : (bs word other : List ℕ) → false ≡ pointwise eqb bs word → word ≡ other → bs ≡ other → ⊥
-apart bs word other e w h = false≢true ((slice_eq-Decides Decides-eqb bs word false e).1 (h ∙ sym w))
 
 pub returns-then-eq : goal.returns-then-eq
 returns-then-eq c = says_open c.args.table.now c.args.line.now (same _ _ _ c.if-eq.ensures c.as_slice.ensures)
