@@ -16,7 +16,8 @@ pub(crate) struct Kept {
 }
 
 impl<P: Policy> Accepted<'_, P> {
-    // What is to be kept of a line at the time t: the policy is asked only if the number of jobs has changed.
+    // What is to be kept of a line at the time t: the policy is asked only if the number of jobs has changed. t is a number with a
+    // bound and no type of its own, since the search compares and replaces it by loads, which have none.
     fn kept_at(&self, line: &Line, known: Kept, t: u32) -> Kept
         requires time { t ≤ 1000000 }
         requires taken { P.takes self.now.policy.now line.now ≡ true }

@@ -10,7 +10,8 @@ use words::bits::count_ones;
 use words::quota::Quota;
 
 impl Line {
-    // The line with these values; none unless they keep the rules of a line.
+    // The line with these values; none unless they keep the rules of a line. They come one by one and no `Quota` is asked for, since
+    // a caller has plain numbers, and the refusal is made here.
     pub fn new(
         name: Name,
         technique: Technique,

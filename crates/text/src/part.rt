@@ -13,7 +13,8 @@ pub fn first_mark(bytes: &[u8], mark: u8) -> Option<usize>
     bytes.iter().position(|byte| *byte == mark)
 }
 
-// Bytes of the text, and the place of the first.
+// Bytes of the text, and the place of the first. That the bytes lie within the largest text (`Within` in clauses) is no ghost
+// field: a part may be made of any bytes and any place. Nor has a part the number of its line, since not all parts lie in one.
 #[derive(Clone, Copy)]
 pub struct Part<'a> {
     pub bytes: &'a [u8],

@@ -26,7 +26,8 @@ impl fmt::Display for AnswerLine<'_> {
     }
 }
 
-// Adds the line of an answer. Want of memory is the only error.
+// Adds the line of an answer. Want of memory is the only error. That a text is made and its bytes are added stands in each function
+// that does so: two steps, and one function for them would ask for what it prints in its contract.
 pub fn push_answer(out: &mut Vec<u8>, answer: &Answer) -> Result<(), AllocError>
     ensures { OnOk result (out.new.items ≡ out.old.items ++ answer_line answer.now) }
 {
