@@ -1,5 +1,5 @@
 // The line layer: nine fields, parted by commas, held to the rules of a line.
-ghost use Rattle.std.specs.Prelude.{◌≡◌, ◌++◌, length, ◌==◌};
+ghost use Rattle.std.specs.Prelude.{◌≡◌, ◌≤◌, true, false, ◌&&◌, ◌++◌, length, ◌==◌, nat_le, MatchResult};
 ghost use Rattle.tasks.specs.Rows.{row_of};
 ghost use Rattle.tasks.specs.declared.refusal.Refusal.TheVariants as refusal;
 ghost use Rattle.text.specs.Cuts.{fields_in};
@@ -72,6 +72,14 @@ pub fn split_fields<'a>(text: Part<'a>, number: u32) -> Result<Fields<'a>, Refus
 }
 
 impl<'a> Fields<'a> {
+    // The quota of m and k; where k is below m or above 64, it is refused at its field.
+    fn quota(self, m: u32, k: u32) -> Result<Quota, Refusal>
+        requires { 1 ≤ m }
+        ensures { MatchResult result (λ q. (nat_le m k ≡ true) × (nat_le k 64 ≡ true) × (q.m ≡ m) × (q.k ≡ k)) (λ e. (e ≡ refusal.Value self.entry.number self.entry.k.place) × (nat_le m k && nat_le k 64 ≡ false)) }
+    {
+        Quota::new(m, k).ok_or(self.k.unlawful(self.number))
+    }
+
     // The first five fields, each held to its form and rules from the left.
     fn head(self) -> Result<Head, Refusal>
         ensures { Says result (head_rules self.entry.number (nine self.entry)) (HeadSays self.entry) }
@@ -81,9 +89,11 @@ impl<'a> Fields<'a> {
         let technique = self.technique.read(line)?;
         let m = self.m.read(line)?;
         let k = self.k.read(line)?;
-        let quota = Quota::new(m, k).ok_or(self.k.unlawful(line))?;
+        let quota = self.quota(m, k)?;
         let pattern: PatternValue = self.pattern.read(line)?;
-        let word = pattern.word(quota).ok_or(self.pattern.unlawful(line))?;
+        let Some(word) = pattern.word(quota) else {
+            return Err(self.pattern.unlawful(line));
+        };
         Ok(Head {
             name,
             technique,

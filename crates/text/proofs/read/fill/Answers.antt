@@ -14,8 +14,3 @@ loop-line-init c =
       (λ i. with_lines (none i) ((left ∙ sym (ended_closed 10 0 text c.requires.fed)) i)),
       subst (AllUpTo 8192) (sym left) (closed_up 10 0 8192 text (omega arith)),
     )
-
-pub add-requires : goal.add-requires
-add-requires c =
-    let up = subst (AllUpTo 8192) c.in-Some.ensures.steps c.loop-line.invariant.1 in
-    omega (arith, up.0)
