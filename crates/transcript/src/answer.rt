@@ -1,5 +1,5 @@
 // The lines that tell what calls were answered, and how the tasks stand.
-ghost use Rattle.std.specs.Prelude.{◌≡◌, ◌++◌, OnOk, Some};
+ghost use Rattle.std.specs.Prelude.{◌≡◌, ◌++◌, OnOk, OnErr, Some};
 ghost use Rattle.transcript.specs.Answers.{answer_line, task_line};
 
 use report::report::{RefusalLine, verdict_line};
@@ -26,16 +26,18 @@ impl fmt::Display for AnswerLine<'_> {
     }
 }
 
-// Adds the line of an answer. Want of memory is the only error. That a text is made and its bytes are added stands in each function
-// that does so: two steps, and one function for them would ask for what it prints in its contract.
+// Adds the line of an answer. Want of memory is the only error, and then nothing is added. That a text is made and its bytes
+// are added stands in each function that does so: two steps, and one function for them would ask for what it prints in its
+// contract.
 pub fn push_answer(out: &mut Vec<u8>, answer: &Answer) -> Result<(), AllocError>
-    ensures { OnOk result (out.new.items ≡ out.old.items ++ answer_line answer.now) }
+    ensures ok { OnOk result (out.new.items ≡ out.old.items ++ answer_line answer.now) }
+    ensures err { OnErr result (out.new.items ≡ out.old.items) }
 {
     let line = AnswerLine(answer).to_string(*out.allocator())?;
     out.extend_from_slice(line.as_bytes())
 }
 
-// Adds the line of a task: its number, releases, ends and figure. Want of memory is the only error.
+// Adds the line of a task: its number, releases, ends and figure. Want of memory is the only error, and then nothing is added.
 pub fn push_task(
     out: &mut Vec<u8>,
     number: u32,
@@ -43,7 +45,8 @@ pub fn push_task(
     ends: u64,
     figure: u32,
 ) -> Result<(), AllocError>
-    ensures { OnOk result (out.new.items ≡ out.old.items ++ task_line number releases ends figure) }
+    ensures ok { OnOk result (out.new.items ≡ out.old.items ++ task_line number releases ends figure) }
+    ensures err { OnErr result (out.new.items ≡ out.old.items) }
 {
     let line = format!(in *out.allocator(); "{number},{releases},{ends},{figure}\n")?;
     out.extend_from_slice(line.as_bytes())
