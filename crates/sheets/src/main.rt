@@ -9,19 +9,21 @@ fn print_report(rt: &HostRuntime, text: &[u8]) -> anyhow::Result<()> {
     Ok(())
 }
 
-// Prints the reports of the texts in the input; a line that is just `%%` ends a text and belongs to none.
+// Prints the reports of the texts in the input; a line that is just `%%` ends a text and belongs to none. A text is a
+// part of the input and no copy, so where it starts is counted along.
 fn print_reports(rt: &HostRuntime, input: &[u8]) -> anyhow::Result<()> {
-    let mut text = Vec::new(rt.alloc());
+    let mut start = 0;
+    let mut end = 0;
     for line in input.split_inclusive(|byte| *byte == b'\n') {
+        let next = end + line.len();
         if line == b"%%\n".as_slice() {
-            print_report(rt, text.as_slice())?;
+            print_report(rt, &input[start..end])?;
             rt.stdout().write_all(line)?;
-            text.clear();
-        } else {
-            text.extend_from_slice(line)?;
+            start = next;
         }
+        end = next;
     }
-    print_report(rt, text.as_slice())
+    print_report(rt, &input[start..])
 }
 
 fn main(rt: HostRuntime) -> anyhow::Result<()> {
