@@ -1,26 +1,38 @@
 -- Twins from what the question tests.
-use Rattle.std.proofs.Common.{◌≡◌, ℕ, ◌%◌, ◌<◌, ◌≤◌, Bool, true, false, eqb, Option, Some, None, MatchOption, MatchBool, Decides, length, sym, refl, ◌∙◌, subst, mod-lt, arith}
+use Rattle.std.proofs.Common.{◌≡◌, ℕ, ◌%◌, ◌^◌, ◌<◌, Bool, true, false, MatchBool, Decides, length, sym, refl, ap, ◌∙◌, subst, mod-lt, arith}
 use Rattle.std.specs.List.{range_with_len, HoldsAt, AllWithin}
-use Rattle.std.specs.Option.{option_eq}
 use Rattle.std.proofs.lemmas.Bool.{false≢true}
-use Rattle.std.proofs.lemmas.Bool.Decides.{Decides-eqb}
 use Rattle.std.proofs.lemmas.List.FromFn.{length-range_with_len, get_or-range_with_len}
-use Rattle.words.specs.Turns.{Turned}
-use Rattle.words.proofs.TurnLemmas.{turned_round, turned_same}
+use Rattle.words.specs.Bits.{bit, ones}
+use Rattle.words.specs.Turns.{turned_bit, Turned}
+use Rattle.words.proofs.TurnLemmas.{turned_round}
 use Rattle.tasks.specs.declared.job.Version.{Version}
 use Rattle.tasks.specs.declared.job.Version.TheVariants.{Bare, Detect, Correct}
 use Rattle.tasks.specs.declared.line.Line.{Line}
 use Rattle.tasks.specs.Lines.{time}
 use Rattle.tasks.specs.Twins.{Twins}
 
--- the word that turning tells is the other just where that one is the turned word
-pub Decides-turned : (w k s v : ℕ) (r : Option ℕ) → (1 ≤ k) × (k ≤ 64) → MatchOption r ((1 ≤ k) × (k ≤ 64) → ⊥) (λ u. (1 ≤ k) × (k ≤ 64) × Turned w k s u) → Decides (option_eq eqb r (Some v)) (Turned w k s v)
-Decides-turned w k s v None size h = absurd (h size)
-Decides-turned w k s v (Some u) size h =
-    let d = Decides-eqb u v in
-    (λ e. subst (Turned w k s) (d.0 e) h.2, λ t. d.1 (turned_same w k s u v h.2 t))
+-- a question that goes over the k places decides whether each bit is the turned one
+pub Decides-bits : (w k s v : ℕ) (r : Bool)
+    → MatchBool r (AllWithin (λ j. bit v j ≡ turned_bit w k s j) (range_with_len 0 k) 0 (length (range_with_len 0 k))) ((j : ℕ) × (j < length (range_with_len 0 k)) × HoldsAt (λ j. bit v j ≡ turned_bit w k s j → ⊥) (range_with_len 0 k) j) → Decides r ((j : ℕ) → j < k → bit v j ≡ turned_bit w k s j)
+Decides-bits w k s v true h = (
+  (λ _ j l. subst (λ i. bit v i ≡ turned_bit w k s i) (get_or-range_with_len 0 k j 0 l ∙ omega arith) (h j 0 (omega arith) (omega (arith, length-range_with_len 0 k)))),
+  (λ _. refl),
+)
+Decides-bits w k s v false h =
+    let j = h.0 in
+    let below : j < k = omega (arith, h.1, length-range_with_len 0 k) in
+    (λ e. absurd (false≢true e), λ t. absurd (h.2 0 (subst (λ i. bit v i ≡ turned_bit w k s i) (sym (get_or-range_with_len 0 k j 0 below ∙ omega arith)) (t j below))))
 
-times_agree : (a b : Line) → a.times.bare ≡ b.times.bare → a.times.detect ≡ b.times.detect → a.times.correct ≡ b.times.correct → (v : Version) → time a v ≡ time b v
+-- equal bits are enough: both words have m ones, and nothing at and above k
+pub word_turned : (a b : Line) → a.m ≡ b.m → a.k ≡ b.k → (s : ℕ) → ((j : ℕ) → j < a.k → bit b.word j ≡ turned_bit a.word a.k s j) → Turned a.word a.k s b.word
+word_turned a b m k s bits = record {
+  bits = bits;
+  reliable = ap (λ n. ones n b.word) k ∙ b.reliable ∙ sym m ∙ sym a.reliable;
+  narrow = subst (λ (n : ℕ). b.word < 2 ^ n) (sym k) b.narrow;
+}
+
+pub times_agree : (a b : Line) → a.times.bare ≡ b.times.bare → a.times.detect ≡ b.times.detect → a.times.correct ≡ b.times.correct → (v : Version) → time a v ≡ time b v
 times_agree a b u d r Bare = u
 times_agree a b u d r Detect = d
 times_agree a b u d r Correct = r

@@ -1,19 +1,21 @@
 // Lines that differ only by a turn of the word.
-ghost use Rattle.std.specs.Prelude.{Decides};
-ghost use Rattle.words.specs.Turns.{Turned};
+ghost use Rattle.std.specs.Prelude.{◌≡◌, ℕ, ◌<◌, Decides};
+ghost use Rattle.words.specs.Bits.{bit};
+ghost use Rattle.words.specs.Turns.{turned_bit};
 ghost use Rattle.tasks.specs.Tables.{lines_of};
 ghost use Rattle.tasks.specs.Twins.{Twins, Asked};
 
 use crate::line::Line;
 use crate::refusal::Refusal;
 use crate::table::Table;
-use words::turns::turned;
+use words::bits::bit_at;
 
-// Whether b's word is a's turned left by so many places.
+// Whether the k bits of b's word are those of a's turned left by so many places.
 fn is_turned_by(a: &Line, b: &Line, by: u32) -> bool
-    ensures { Decides result (Turned a.now.word a.now.k by b.now.word) }
+    requires { by < a.now.k }
+    ensures { Decides result ((j : ℕ) → j < a.now.k → bit b.now.word j ≡ turned_bit a.now.word a.now.k by j) }
 {
-    turned(a.word, a.k, by) == Some(b.word)
+    (0..a.k).all(|place| bit_at(b.word, place) == bit_at(a.word, (place + by) % a.k))
 }
 
 fn are_twins(a: &Line, b: &Line) -> bool

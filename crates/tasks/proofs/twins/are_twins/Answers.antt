@@ -3,7 +3,7 @@ use Rattle.std.proofs.lemmas.Iterator.{YieldsList-from_range, cases_from_any}
 use Rattle.std.proofs.lemmas.Bool.{false≢true}
 use Rattle.tasks.specs.declared.job.Version.TheVariants.{Bare, Detect, Correct}
 use Rattle.words.specs.Turns.{Turned}
-use Rattle.tasks.proofs.TwinLemmas.{Decides-twins}
+use Rattle.tasks.proofs.TwinLemmas.{word_turned, Decides-twins}
 use Rattle.tasks.proofs.twins.are_twins.Goals as goal
 
 pub returns-then-eq : goal.returns-then-eq
@@ -11,7 +11,7 @@ returns-then-eq c =
     let a = c.args.a.now in
     let b = c.args.b.now in
     Decides-twins a b (search (rules, tests)) (search (rules, tests)) (search (rules, tests)) (search (rules, tests)) (search (rules, tests)) (search (rules, tests)) (search (rules, tests)) c.any.result
-    (cases_from_any _ _ _ (λ s. Turned a.word a.k s b.word) (λ s. Turned a.word a.k s b.word → ⊥) c.any.ensures.ran (YieldsList-from_range 0 a.k a.k (search rules) (omega arith)) (λ s q k. search (rules, tests)) (λ s q k. search (rules, tests)))
+    (cases_from_any _ _ _ (λ s. Turned a.word a.k s b.word) (λ s. Turned a.word a.k s b.word → ⊥) c.any.ensures.ran (YieldsList-from_range 0 a.k a.k (search rules) (omega arith)) (λ s q k. search (rules, tests, word_turned a b)) (λ s q k. (search (rules, tests), λ t. let bits = t.bits in search (rules, tests))))
 
 pub returns-else-eq : goal.returns-else-eq
 returns-else-eq c = (
