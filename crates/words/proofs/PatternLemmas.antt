@@ -1,8 +1,6 @@
 -- The R and the E pattern have just m ones.
 use Rattle.std.proofs.Common.{◌≡◌, ℕ, zero, suc, ◌+◌, ◌-◌, ◌*◌, ◌/◌, ◌^◌, ◌<◌, ◌≤◌, true, false, cond, eqb, ltb, ap, ◌∙◌, ⊎_elim, mul-le-mul_right, mod-lt, suc-mul, mul_comm, div-add-mod', arith}
 use Rattle.std.proofs.lemmas.Bool.{cases_lt, cases_Bool, ltb-true, ltb-false, eqb-true, eqb-false}
-use Rattle.std.proofs.lemmas.Grind.{div_ceil_times}
-use Rattle.std.specs.Int.{div_ceil}
 use Rattle.words.specs.Sums.{sum_below}
 use Rattle.words.specs.Bits.{bit}
 use Rattle.words.specs.Patterns.{up, e_zero, pattern_bit, Window, Follows}
@@ -33,14 +31,6 @@ up_low x k h = omega (arith, div-add-mod' (x + (k - 1)) k, mod-lt (x + (k - 1)) 
 
 up_high : (x k : ℕ) → 0 < k → up x k * k < x + k
 up_high x k h = omega (arith, div-add-mod' (x + (k - 1)) k)
-
--- the library's rounding up is the same
-pub ceil_is_up : (x k : ℕ) → 0 < k → div_ceil x k ≡ up x k
-ceil_is_up x k h =
-    let a = div_ceil_times x k h in
-    let less : div_ceil x k ≤ up x k = times_within (div_ceil x k) (up x k) k (omega (arith, a.1, up_low x k h)) in
-    let more : up x k ≤ div_ceil x k = times_within (up x k) (div_ceil x k) k (omega (arith, a.0, up_high x k h)) in
-    omega arith
 
 -- a zero is counted
 step_zero : (q k n : ℕ) → 0 < q → q ≤ k → e_zero q k n ≡ true → up (suc n * q) k ≡ suc (up (n * q) k)

@@ -28,7 +28,6 @@ impl Pattern {
         word_of(quota.k, |place| self.bit(quota, place))
     }
 
-    #[tactic(auto, using(crate::proofs::PatternLemmas::ceil_is_up))]
     fn bit(self, quota: Quota, place: u32) -> u64
         requires { place < quota.k }
         ensures { result ≡ pattern_bit self quota.m quota.k place }
@@ -38,7 +37,7 @@ impl Pattern {
             Pattern::R => u64::from(place >= zeros),
             Pattern::E if zeros == 0 => 1,
             Pattern::E => {
-                let count = (place * zeros).div_ceil(quota.k);
+                let count = (place * zeros + (quota.k - 1)) / quota.k;
                 u64::from(place != count * quota.k / zeros)
             }
         }
