@@ -23,12 +23,12 @@ fn table() -> Table
 fn unanswered(table: Table) -> [Entry; 12]
     ensures { calls result ≡ calls (run_log table) }
 {
-    let release = Call::Release { task: 1 };
-    let on = Call::Tick { word: 0 };
-    let end = Call::Tick { word: 1 };
-    let fault = Call::Tick { word: 2 };
+    let release = Entry::unanswered(Call::Release { task: 1 });
+    let on = Entry::unanswered(Call::Tick { word: 0 });
+    let end = Entry::unanswered(Call::Tick { word: 1 });
+    let fault = Entry::unanswered(Call::Tick { word: 2 });
     [
-        Call::Open { table },
+        Entry::unanswered(Call::Open { table }),
         release,
         on,
         fault,
@@ -41,7 +41,6 @@ fn unanswered(table: Table) -> [Entry; 12]
         on,
         end,
     ]
-    .map(Entry::unanswered)
 }
 
 // Reads the table, makes the calls on a new engine under the by-line policy, and gives them with their answers.
