@@ -10,7 +10,11 @@ use tasks::table::Table;
 use text::number;
 use text::part::first_mark;
 
+// The longest line that says a call: `release`, a space and nine digits.
+const LONGEST_CALL: usize = 17;
+
 // The number that 1 to 9 digits write.
+#[tactic(auto, using(crate::proofs::Saying::number_is))]
 fn number(digits: &[u8]) -> Option<u32>
     ensures { MatchOption result (Numeral digits.now → ⊥) (λ n. Numeral digits.now × (n ≡ number_of digits.now)) }
 {
@@ -34,6 +38,10 @@ pub fn call_on(line: &[u8], table: &Table) -> Option<Call>
 {
     if line == b"open".as_slice() {
         return Some(Call::Open { table: *table });
+    }
+    // Of a longer line, the space is not looked for.
+    if line.len() > LONGEST_CALL {
+        return None;
     }
     let (word, number) = word_and_number(line)?;
     // A chain of tests: a match on byte strings proves where a word says one value, but here, where no other call may be said
