@@ -33,6 +33,7 @@ fn add_figure_line(
     Ok(())
 }
 
+#[tactic(auto, using(crate::proofs::Lines::figure_more, crate::proofs::Lines::figure_all))]
 fn figure_lines(heap: Global, table: &Table, figures: &[u32; 32]) -> Result<Vec<u8>, AllocError>
     ensures { IfOk result (λ v. v.items ≡ figure_lines 1 (names (lines_of table.now)) figures.now) }
 {

@@ -50,6 +50,7 @@ impl<P: Policy> Accepted<'_, P> {
     }
 
     // Whether no figure of the lines is 0.
+    #[tactic(auto, using(crate::proofs::Places::none_zero))]
     fn is_admitted(&self, figures: &[u32; 32]) -> bool
         ensures { Decides result (Admitted (length self.now.lines.now) figures.now) }
     {
