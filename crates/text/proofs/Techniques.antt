@@ -34,7 +34,7 @@ some_word bs e =
 pub word_back : (bs : List ℕ) → is_technique bs ≡ true → bs ≡ technique_word (technique_of bs)
 word_back bs e = let s = some_word bs e in s.1 ∙ ap technique_word (named bs s.0 s.1).1
 
-unnamed : (bs : List ℕ) → ((t : Technique) → bs ≡ technique_word t → ⊥) → is_technique bs ≡ false
+pub unnamed : (bs : List ℕ) → ((t : Technique) → bs ≡ technique_word t → ⊥) → is_technique bs ≡ false
 unnamed bs n = ⊎_elim (λ (t : is_technique bs ≡ true). absurd (n (technique_of bs) (word_back bs t))) (λ f. f) (cases_Bool (is_technique bs))
 
 -- what a word names, by its form

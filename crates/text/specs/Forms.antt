@@ -4,6 +4,8 @@ use Rattle.std.specs.Str.{bytes_eq}
 use Rattle.tasks.specs.Bytes.{every, digit}
 use Rattle.tasks.specs.Spelled.{technique_word}
 use Rattle.tasks.specs.declared.technique.Technique.TheVariants.{Fr, Sre, Sdr, Dre, Ddr}
+-- the form of a name stands with the names themselves
+pub use Rattle.tasks.specs.Bytes.{is_name}
 
 -- 0 or 1
 abbrev pub binary : ℕ → Bool

@@ -1,12 +1,11 @@
 -- The rules of a table text, in the order in which they are tested, and the first that is broken.
 use Rattle.std.specs.Prelude.{ℕ, ◌+◌, ◌-◌, Bool, false, cond, not, ◌||◌, List, [], ◌∷◌, ◌++◌, map, length, Some, None, Option, ◌==◌, nat_le, nat_lt, slice_index, slice_index_or}
 use Rattle.std.specs.Str.{bytes_eq}
-use Rattle.tasks.specs.Bytes.{is_name}
 use Rattle.tasks.specs.Rows.{Row}
 use Rattle.tasks.specs.declared.refusal.Refusal.{Refusal}
 use Rattle.tasks.specs.declared.refusal.Refusal.TheVariants as refusal
 use Rattle.text.specs.Cuts.{Placed, placed, last_byte}
-use Rattle.text.specs.Forms.{is_technique, is_number, is_pattern}
+use Rattle.text.specs.Forms.{is_name, is_technique, is_number, is_pattern}
 use Rattle.text.specs.Values.{number_of, fits}
 
 -- whether a rule is kept, and the refusal where it is broken

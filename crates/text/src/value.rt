@@ -1,9 +1,9 @@
 // The values that fields write.
 ghost use Rattle.std.specs.Prelude.{◌≡◌, ℕ, ◌^◌, ◌<◌, ◌≤◌, true, false, Bool, List, length, MatchOption};
 ghost use Rattle.words.specs.Bits.{ones};
-ghost use Rattle.tasks.specs.Bytes.{every, is_name};
+ghost use Rattle.tasks.specs.Bytes.{every};
 ghost use Rattle.tasks.specs.Named.{name_bytes};
-ghost use Rattle.text.specs.Forms.{binary, is_technique, is_number, is_pattern};
+ghost use Rattle.text.specs.Forms.{binary, is_name, is_technique, is_number, is_pattern};
 ghost use Rattle.text.specs.Values.{technique_of, number_of, bits_of, fits, field_word, SaysPattern};
 
 use crate::number::number;
