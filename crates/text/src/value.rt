@@ -53,6 +53,7 @@ impl FieldValue for u32 {
 
     ghost says = { λ bs n. (n ≡ number_of bs) × (1 ≤ n) × (n < 10000000) };
 
+    #[tactic(auto, using(crate::proofs::Steps::number_value))]
     fn from_bytes(bytes: &[u8]) -> Option<u32> {
         match bytes {
             [] => None,
